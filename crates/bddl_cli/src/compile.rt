@@ -1,0 +1,129 @@
+// The request `compile`.
+ghost use Rattle.std.specs.Prelude.{◌≡◌, ◌↔◌, ◌≤◌, ℕ, List, Some, true, false, IfSome, IfOk, IfErr, IsTrue, MatchOption, MatchResult, ◌≢◌};
+ghost use Rattle.bddl_model.specs.Outcome.{RequestEnds, CompileEnds, IsBuiltDomain, IsBuiltProblem, IsEmptyProblem, no_actions};
+ghost use Rattle.bddl_model.specs.Request as spec;
+ghost use Rattle.bddl_model.specs.declared.texts.ProblemText.{ProblemText};
+ghost use Rattle.io_edge.specs.Outside.{Counts};
+ghost use Rattle.bddl_cli.specs.Ends.{Writes, StopsAsMayBe, KeepsOut, is_read_fault, is_write_fault};
+
+use crate::form_text::write_form;
+use crate::read::{FILE_LIMIT, read_named};
+use crate::refusal::{Refusal, Stop};
+use bddl_model::{DomainText, NoMemory, ProblemText, ReadFault};
+use bddl_reader::{read_domain, read_problem};
+use io_edge::{Shelf, Sink};
+use lifted_encode::start_form;
+use std::alloc::Global;
+
+/// Compiles the problem of two named files, and writes the formula.
+pub fn compile<S: Shelf, K: Sink>(
+    alloc: Global,
+    domain: &[u8],
+    problem: &[u8],
+    shelf: &mut S,
+    out: &mut K,
+) -> Result<(), Stop>
+    ensures told { IfSome (S.held shelf.old) (λ files.
+        Writes (RequestEnds true files (Some (spec.compile domain.now problem.now))) (K.written out.old) (K.written out.new) result) }
+    ensures calm_told { S.calm shelf.old → IfSome (S.held shelf.old) (λ files.
+        Writes (RequestEnds false files (Some (spec.compile domain.now problem.now))) (K.written out.old) (K.written out.new) result) }
+    ensures stops { IfErr result (StopsAsMayBe (Some (spec.compile domain.now problem.now))) }
+    ensures kept { KeepsOut (K.written out.old) (K.written out.new) result }
+    ensures shelf_cause { Counts (S.faults shelf.old) (S.faults shelf.new) (is_read_fault result) }
+    ensures out_cause { Counts (K.faults out.old) (K.faults out.new) (is_write_fault result) }
+{
+    let domain = read_named(alloc, shelf, 2, domain)?;
+    let problem = read_named(alloc, shelf, 3, problem)?;
+    write_compiled(alloc, &domain, &problem, out)
+}
+
+// Compiles the problem of two texts, and writes the formula.
+fn write_compiled<K: Sink>(
+    alloc: Global,
+    domain: &[u8],
+    problem: &[u8],
+    out: &mut K,
+) -> Result<(), Stop>
+    ensures written { Writes (CompileEnds domain.now problem.now) (K.written out.old) (K.written out.new) result }
+    ensures kept { KeepsOut (K.written out.old) (K.written out.new) result }
+    ensures cause { Counts (K.faults out.old) (K.faults out.new) (is_write_fault result) }
+    ensures no_read { is_read_fault result ≡ false }
+    ensures stops { (d p : List ℕ) → IfErr result (StopsAsMayBe (Some (spec.compile d p))) }
+{
+    if !is_built_domain(alloc, domain)? {
+        return Err(Stop::Refused(Refusal::DomainNotBuilt));
+    }
+    let Some(tree) = built_problem(alloc, problem)? else {
+        return Err(Stop::Refused(Refusal::ProblemNotBuilt));
+    };
+    let form = start_form(alloc, &tree)?;
+    write_form(&form, out)?;
+    Ok(())
+}
+
+fn is_built_domain(alloc: Global, bytes: &[u8]) -> Result<bool, NoMemory>
+    ensures { IfOk result (λ built. IsTrue built ↔ IsBuiltDomain bytes.now) }
+{
+    if bytes.len() as u64 > FILE_LIMIT {
+        return Ok(false);
+    }
+    match read_domain(alloc, bytes) {
+        Ok(tree) => Ok(has_no_actions(&tree)),
+        Err(fault) => refused_unless_no_memory(fault, false),
+    }
+}
+
+fn has_no_actions(tree: &DomainText) -> bool
+    ensures { IsTrue result ↔ (tree.now ≡ no_actions) }
+{
+    tree.black.as_slice().is_empty() && tree.white.as_slice().is_empty()
+}
+
+// A text that is refused is answered, and want of memory is passed on.
+fn refused_unless_no_memory<T: Drop>(fault: ReadFault, refused: T) -> Result<T, NoMemory>
+    ensures { MatchResult result (λ answer. (answer ≡ refused) × (fault ≢ ReadFault.NoMemory)) (λ _. fault ≡ ReadFault.NoMemory) }
+{
+    match fault {
+        ReadFault::NoMemory => Err(NoMemory),
+        _ => Ok(refused),
+    }
+}
+
+fn built_problem(alloc: Global, bytes: &[u8]) -> Result<Option<ProblemText>, NoMemory>
+    ensures { IfOk result (λ found. MatchOption found ((tree : ProblemText) → IsBuiltProblem bytes.now tree → ⊥) (IsBuiltProblem bytes.now)) }
+{
+    if bytes.len() as u64 > FILE_LIMIT {
+        return Ok(None);
+    }
+    match read_problem(alloc, bytes) {
+        Ok(tree) => Ok(if_empty(tree)),
+        Err(fault) => refused_unless_no_memory(fault, None),
+    }
+}
+
+fn if_empty(tree: ProblemText) -> Option<ProblemText>
+    ensures { MatchOption result (IsEmptyProblem tree → ⊥) (λ kept. (kept ≡ tree) × IsEmptyProblem kept) }
+{
+    if is_empty_problem(&tree) {
+        Some(tree)
+    } else {
+        None
+    }
+}
+
+fn is_empty_problem(tree: &ProblemText) -> bool
+    ensures { IsTrue result ↔ IsEmptyProblem tree.now }
+{
+    is_side(tree.width)
+        && is_side(tree.height)
+        && tree.depth == 0
+        && tree.init.as_slice().is_empty()
+        && tree.black.as_slice().is_empty()
+        && tree.white.as_slice().is_empty()
+}
+
+fn is_side(length: u32) -> bool
+    ensures { IsTrue result ↔ ((1 ≤ length) × (length ≤ 16)) }
+{
+    1 <= length && length <= 16
+}

@@ -1,0 +1,53 @@
+-- Variables that are numbered one after the other.
+use Rattle.std.proofs.Common.{◌≡◌, ℕ, zero, suc, ◌+◌, ◌<◌, ◌≤◌, Bool, true, false, List, [], ◌∷◌, ◌++◌, ⊎_elim, refl, ap, ◌∙◌, arith, eq-eqb, ne_eqb}
+use Rattle.std.specs.Prelude.{◌||◌, ◌==◌}
+use Rattle.std.proofs.lemmas.Bool.{le-leb, cases_lt}
+use Rattle.bddl_model.specs.declared.formula.Quant.{Quant}
+use Rattle.bddl_model.specs.declared.formula.Bound.{Bound}
+use Rattle.bddl_model.specs.Forms.{has_number, in_range, AllInRange, AllApart, prefix_variables}
+use Rattle.bddl_model.specs.Layout.{bounds}
+
+-- so many numbers from v on
+abbrev pub counted : ℕ → ℕ → List ℕ
+counted v zero = []
+counted v (suc n) = v ∷ counted (suc v) n
+
+pub counted-append : (v n m w : ℕ) → w ≡ v + n → counted v n ++ counted w m ≡ counted v (n + m)
+counted-append v zero m w e = let same : w ≡ v = omega arith in let none : m ≡ 0 + m = omega arith in ap (λ x. counted x m) same ∙ ap (counted v) none
+counted-append v (suc n) m w e =
+    let one_more : suc (n + m) ≡ suc n + m = omega arith in
+    ap (λ l. v ∷ l) (counted-append (suc v) n m w (omega arith)) ∙ ap (counted v) one_more
+
+pub variables-bounds : (q : Quant) (v n : ℕ) → prefix_variables (bounds q v n) ≡ counted v n
+variables-bounds q v zero = refl
+variables-bounds q v (suc n) = ap (λ l. v ∷ l) (variables-bounds q (suc v) n)
+
+pub variables-append : (xs ys : List Bound) → prefix_variables (xs ++ ys) ≡ prefix_variables xs ++ prefix_variables ys
+variables-append [] ys = refl
+variables-append (x ∷ xs) ys = ap (λ l. x.var.0 ∷ l) (variables-append xs ys)
+
+pub counted-in_range : (most v n : ℕ) → 1 ≤ v → v + n ≤ suc most → AllInRange most (counted v n)
+counted-in_range most v zero low high = tt
+counted-in_range most v (suc n) low high =
+    let here : in_range most v ≡ true = rw (le-leb 1 v low, le-leb v most (omega arith)) refl in
+    (here, counted-in_range most (suc v) n (omega arith) (omega arith))
+
+-- a number before them is not among them
+before_counted : (v n w : ℕ) → w < v → has_number (counted v n) w ≡ false
+before_counted v zero w lt = refl
+before_counted v (suc n) w lt = let other : (v == w) ≡ false = ne_eqb v w (λ e. absurd (omega arith)) in rw other (before_counted (suc v) n w (omega arith))
+
+pub counted-apart : (v n : ℕ) → AllApart (counted v n)
+counted-apart v zero = tt
+counted-apart v (suc n) = (before_counted (suc v) n v (omega arith), counted-apart (suc v) n)
+
+or-true : (a : Bool) → (a || true) ≡ true
+or-true true = refl
+or-true false = refl
+
+pub among_counted : (v n w : ℕ) → v ≤ w → w < v + n → has_number (counted v n) w ≡ true
+among_counted v zero w low high = absurd (omega arith)
+among_counted v (suc n) w low high = ⊎_elim
+    (λ lt. rw (among_counted (suc v) n w lt (omega arith)) (or-true (v == w)))
+    (λ le. let same : (v == w) ≡ true = eq-eqb v w (omega arith) in rw same refl)
+    (cases_lt v w)

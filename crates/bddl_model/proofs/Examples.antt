@@ -1,0 +1,130 @@
+-- Small games and formulas, as the definitions compute them.
+use Rattle.std.proofs.Common.{◌≡◌, ℕ, true, false, List, [], ◌∷◌, ◌++◌, refl}
+use Rattle.std.specs.Prelude.{pos, replicate, codes}
+use Rattle.std.specs.Fmt.{digits}
+use Rattle.bddl_model.specs.declared.formula.Lit.{Lit}
+use Rattle.bddl_model.specs.declared.formula.Quant.{Quant}
+use Rattle.bddl_model.specs.declared.formula.Quant.TheVariants.{Exists, All}
+use Rattle.bddl_model.specs.declared.formula.Bound.{Bound}
+use Rattle.bddl_model.specs.declared.game.Mark.{Mark}
+use Rattle.bddl_model.specs.declared.game.Mark.TheVariants as marks
+use Rattle.bddl_model.specs.declared.game.Side.TheVariants.{Black}
+use Rattle.bddl_model.specs.declared.game.Term.TheVariants.{Rel, Abs}
+use Rattle.bddl_model.specs.declared.game.Atom.{Atom}
+use Rattle.bddl_model.specs.Truth.{form_value}
+use Rattle.bddl_model.specs.FormulaText.{qtext}
+use Rattle.bddl_model.specs.Game.{Action, Game}
+use Rattle.bddl_model.specs.Win.{win}
+use Rattle.bddl_model.specs.Bits.{bits}
+use Rattle.bddl_model.specs.Layout.{layout, blocks, prefix_of, bounds}
+
+-- ---- formulas
+
+abbrev bound : Quant → ℕ → Bound
+bound q v = record { quant = q; var = record { 0 = v } }
+
+abbrev plus : ℕ → Lit
+plus v = record { var = record { 0 = v }; negated = false }
+
+abbrev minus : ℕ → Lit
+minus v = record { var = record { 0 = v }; negated = true }
+
+abbrev same_values : List (List Lit)
+same_values = (plus 1 ∷ minus 2 ∷ []) ∷ (minus 1 ∷ plus 2 ∷ []) ∷ []
+
+an_inner_variable_may_follow_an_outer_one : form_value (record { prefix = bound All 1 ∷ bound Exists 2 ∷ []; clauses = same_values }) ≡ true
+an_inner_variable_may_follow_an_outer_one = refl
+
+an_outer_variable_may_not_follow_an_inner_one : form_value (record { prefix = bound Exists 2 ∷ bound All 1 ∷ []; clauses = same_values }) ≡ false
+an_outer_variable_may_not_follow_an_inner_one = refl
+
+the_text_of_a_formula : qtext (record { prefix = bound All 1 ∷ bound Exists 2 ∷ bound Exists 3 ∷ []; clauses = same_values }) ≡ codes "p cnf 3 2\na 1 0\ne 2 3 0\n1 -2 0\n-1 2 0\n"
+unfolding digits
+the_text_of_a_formula = refl
+
+the_text_of_no_formula : qtext (record { prefix = []; clauses = [] ∷ [] }) ≡ codes "p cnf 0 1\n0\n"
+unfolding digits
+the_text_of_no_formula = refl
+
+-- ---- games
+
+abbrev near : Mark → ℕ → ℕ → Atom
+near m x y = record { mark = m; x = Rel (pos x); y = Rel (pos y) }
+
+abbrev fixed : Mark → ℕ → ℕ → Atom
+fixed m x y = record { mark = m; x = Abs x; y = Abs y }
+
+abbrev occupy : Mark → Action
+occupy m = record { name = codes "occupy"; before = near marks.Free 0 0 ∷ []; effects = near m 0 0 ∷ [] }
+
+abbrev occupying : ℕ → ℕ → List (List Atom) → List (List Atom) → Game
+occupying w h black white = record { width = w; height = h; black_actions = occupy marks.Black ∷ []; white_actions = occupy marks.White ∷ []; black_lines = black; white_lines = white }
+
+abbrev without_actions : ℕ → ℕ → List (List Atom) → List (List Atom) → Game
+without_actions w h black white = record { width = w; height = h; black_actions = []; white_actions = []; black_lines = black; white_lines = white }
+
+abbrev across : List Atom
+across = near marks.Black 0 0 ∷ near marks.Black 1 0 ∷ []
+
+abbrev down : List Atom
+down = near marks.Black 0 0 ∷ near marks.Black 0 1 ∷ []
+
+a_black_stone_stands : win (without_actions 1 1 ((fixed marks.Black 1 1 ∷ []) ∷ []) []) Black (marks.Black ∷ []) 0 ≡ true
+a_black_stone_stands = refl
+
+no_stone_stands : win (without_actions 1 1 ((fixed marks.Black 1 1 ∷ []) ∷ []) []) Black (marks.Free ∷ []) 0 ≡ false
+no_stone_stands = refl
+
+one_ply_makes_no_pair : win (occupying 2 2 (across ∷ down ∷ []) []) Black (replicate 4 marks.Free) 1 ≡ false
+one_ply_makes_no_pair = refl
+
+white_can_stop_only_one_of_two_lines : win (occupying 2 2 (across ∷ down ∷ []) []) Black (replicate 4 marks.Free) 3 ≡ true
+white_can_stop_only_one_of_two_lines = refl
+
+the_second_stone_is_missing : win (occupying 2 2 (across ∷ down ∷ []) []) Black (replicate 4 marks.Free) 2 ≡ false
+the_second_stone_is_missing = refl
+
+the_plies_outrun_the_board : win (occupying 2 1 (across ∷ []) []) Black (replicate 2 marks.Free) 3 ≡ false
+the_plies_outrun_the_board = refl
+
+white_is_stuck : win (occupying 1 1 ((fixed marks.White 1 1 ∷ []) ∷ []) []) Black (replicate 1 marks.Free) 2 ≡ false
+white_is_stuck = refl
+
+white_must_complete_the_line : win (occupying 2 1 ((record { mark = marks.White; x = Abs 2; y = Abs 1 } ∷ []) ∷ []) []) Black (replicate 2 marks.Free) 2 ≡ true
+white_must_complete_the_line = refl
+
+both_goals_at_once_are_blacks : win (without_actions 2 1 ((fixed marks.Black 1 1 ∷ []) ∷ []) ((fixed marks.White 2 1 ∷ []) ∷ [])) Black (marks.Black ∷ marks.White ∷ []) 0 ≡ true
+both_goals_at_once_are_blacks = refl
+
+whites_goal_stood_before : win (without_actions 1 1 ((fixed marks.Black 1 1 ∷ []) ∷ []) ((fixed marks.White 1 1 ∷ []) ∷ [])) Black (marks.White ∷ []) 31 ≡ false
+whites_goal_stood_before = refl
+
+the_later_effect_wins : win (record { width = 1; height = 1; black_actions = record { name = codes "a"; before = near marks.Free 0 0 ∷ []; effects = near marks.Black 0 0 ∷ near marks.White 0 0 ∷ [] } ∷ []; white_actions = []; black_lines = (fixed marks.White 1 1 ∷ []) ∷ []; white_lines = [] }) Black (marks.Free ∷ []) 1 ≡ true
+the_later_effect_wins = refl
+
+-- ---- bits and inputs
+
+bits_of_small_numbers : bits 0 ∷ bits 1 ∷ bits 2 ∷ bits 3 ∷ bits 4 ∷ bits 5 ∷ bits 16 ∷ bits 17 ∷ [] ≡ 0 ∷ 0 ∷ 1 ∷ 2 ∷ 2 ∷ 3 ∷ 4 ∷ 5 ∷ []
+unfolding bits
+bits_of_small_numbers = refl
+
+inputs_of_three_plies_on_two_by_two : prefix_of (blocks (layout (occupying 2 2 (across ∷ down ∷ []) []) Black 3)) ≡ bounds Exists 1 4 ++ bounds All 5 2 ++ bounds Exists 7 8 ++ bounds All 15 2
+unfolding bits
+inputs_of_three_plies_on_two_by_two = refl
+
+-- four lines of five atoms
+abbrev five : Mark → List (List Atom)
+five m = replicate 4 (replicate 5 (near m 0 0))
+
+inputs_of_five_plies_on_fifteen_by_fifteen : prefix_of (blocks (layout (occupying 15 15 (five marks.Black) (five marks.White)) Black 5))
+    ≡ bounds Exists 1 16 ++ bounds All 17 8 ++ bounds Exists 25 16 ++ bounds All 41 8 ++ bounds Exists 49 22 ++ bounds All 71 13 ++ bounds Exists 84 3 ++ bounds All 87 8
+unfolding bits
+inputs_of_five_plies_on_fifteen_by_fifteen = refl
+
+inputs_of_a_start_board : prefix_of (blocks (layout (without_actions 16 3 [] []) Black 0)) ≡ bounds Exists 1 7 ++ bounds All 8 6
+unfolding bits
+inputs_of_a_start_board = refl
+
+inputs_of_one_cell : (layout (without_actions 1 1 [] []) Black 0).inputs ≡ 1
+unfolding bits
+inputs_of_one_cell = refl

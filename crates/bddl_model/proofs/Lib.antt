@@ -1,0 +1,4 @@
+mod Examples
+pub mod Bits
+pub mod Truth
+pub mod Counted

@@ -1,0 +1,28 @@
+-- Which cell an atom names from an anchor, and at which anchors its atoms stay on the board.
+use Rattle.std.specs.Prelude.{ℕ, suc, ◌+◌, ◌-◌, pos, negsuc, Bool, ◌&&◌, nat_le, List}
+use Rattle.std.specs.List.{list_all}
+use Rattle.bddl_model.specs.declared.game.Term.{Term}
+use Rattle.bddl_model.specs.declared.game.Term.TheVariants.{Rel, Abs}
+use Rattle.bddl_model.specs.declared.game.Atom.{Atom}
+use Rattle.bddl_model.specs.Board.{Board, mark_at, same_mark}
+
+-- the number that a term leads to from the anchor's; 0 stands for all that lie before the board
+abbrev pub led : Term → ℕ → ℕ
+led (Rel (pos k)) n = n + k
+led (Rel (negsuc k)) n = n - suc k
+led (Abs m) n = m
+
+abbrev pub on_side : ℕ → ℕ → Bool
+on_side side n = nat_le 1 n && nat_le n side
+
+-- the atom's cell is on the board
+abbrev pub on_board : ℕ → ℕ → ℕ → ℕ → Atom → Bool
+on_board width height x y atom = on_side width (led atom.x x) && on_side height (led atom.y y)
+
+-- the anchor and every atom's cell are on the board
+abbrev pub fits : ℕ → ℕ → List Atom → ℕ → ℕ → Bool
+fits width height atoms x y = on_side width x && (on_side height y && list_all (on_board width height x y) atoms)
+
+-- the atom's cell, which is on the board, has its mark
+abbrev pub has_mark : ℕ → Board → ℕ → ℕ → Atom → Bool
+has_mark width board x y atom = same_mark (mark_at width board (led atom.x x) (led atom.y y)) atom.mark

@@ -1,0 +1,20 @@
+-- When a side's goal stands.
+use Rattle.std.specs.Prelude.{ℕ, Bool, ◌&&◌, List}
+use Rattle.std.specs.List.{list_any, list_all, range_with_len}
+use Rattle.bddl_model.specs.declared.game.Side.{Side}
+use Rattle.bddl_model.specs.declared.game.Atom.{Atom}
+use Rattle.bddl_model.specs.Game.{Game, lines}
+use Rattle.bddl_model.specs.Board.{Board}
+use Rattle.bddl_model.specs.Fitting.{fits, has_mark}
+
+-- the anchor fits, and every atom's cell has its mark
+abbrev pub holds_from : Game → Board → List Atom → ℕ → ℕ → Bool
+holds_from g board line x y = fits g.width g.height line x y && list_all (has_mark g.width board x y) line
+
+-- it does so from some anchor
+abbrev pub line_holds : Game → Board → List Atom → Bool
+line_holds g board line = list_any (λ y. list_any (λ x. holds_from g board line x y) (range_with_len 1 g.width)) (range_with_len 1 g.height)
+
+-- some line of the side holds
+abbrev pub goal : Game → Board → Side → Bool
+goal g board side = list_any (line_holds g board) (lines g side)

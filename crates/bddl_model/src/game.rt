@@ -1,0 +1,47 @@
+use crate::Span;
+
+#[derive(Clone, Copy, Debug, PartialEq, Eq)]
+pub enum Side {
+    Black,
+    White,
+}
+
+/// What a cell holds. `Free` is the mark of an open cell.
+#[derive(Clone, Copy, Debug, PartialEq, Eq)]
+pub enum Mark {
+    Free,
+    Black,
+    White,
+}
+
+/// A coordinate: a shift from the anchor's, or a fixed number. Those of the board count from 1.
+#[derive(Clone, Copy, Debug, PartialEq, Eq)]
+pub enum Term {
+    Rel(i32),
+    Abs(u32),
+}
+
+/// A mark at a cell that is named from the anchor or by fixed numbers.
+#[derive(Clone, Copy, Debug, PartialEq, Eq)]
+pub struct Atom {
+    pub mark: Mark,
+    pub x: Term,
+    pub y: Term,
+}
+
+/// An action of a side, counted from 0, at an anchor, counted from 1.
+#[derive(Clone, Copy, Debug, PartialEq, Eq)]
+pub struct Move {
+    pub action: u32,
+    pub x: u32,
+    pub y: u32,
+}
+
+/// Where the bits of a ply stand among the inputs: those of the move, and before them, at a ply of
+/// White, those of a sample, which shows that White has a legal move.
+#[derive(Clone, Copy, Debug, PartialEq, Eq)]
+pub struct PlyBits {
+    pub side: Side,
+    pub sample: Span,
+    pub code: Span,
+}

@@ -1,0 +1,10 @@
+pub mod Exact
+pub mod ExactOptional
+pub mod ExactMany
+pub mod ExactWhole
+pub mod Lines
+pub mod Loops
+pub mod Faults
+pub mod Answered
+pub mod OneTree
+mod Examples

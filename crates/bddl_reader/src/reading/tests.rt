@@ -1,0 +1,193 @@
+use crate::{read_domain, read_problem};
+use bddl_model::{
+    ActionText, AtomList, AtomText, InitAtom, LexFault, Mark, Place, ReadFault, TermText,
+};
+use std::process::Abort;
+use std::test::Fail;
+
+fn atom(mark: Mark, x: TermText, y: TermText) -> AtomText {
+    AtomText { mark, x, y }
+}
+
+fn at(line: u32, column: u32) -> Place {
+    Place { line, column }
+}
+
+fn unexpected(token: u32, line: u32, column: u32) -> ReadFault {
+    ReadFault::Unexpected {
+        token,
+        place: at(line, column),
+    }
+}
+
+fn ends_early(line: u32, column: u32) -> ReadFault {
+    ReadFault::EndsEarly {
+        place: at(line, column),
+    }
+}
+
+fn assert_occupies(rt: &impl Abort, actions: &[ActionText], mark: Mark) {
+    assert_eq!(rt; actions.len(), 1);
+    for action in actions {
+        assert_eq!(rt; action.name.as_slice(), b"occupy".as_slice());
+        let here = atom(Mark::Free, TermText::Shift(0), TermText::Shift(0));
+        assert_eq!(rt; action.before.as_slice(), [here].as_slice());
+        assert_eq!(rt;
+            action.effects.as_slice(),
+            [AtomText { mark, ..here }].as_slice()
+        );
+    }
+}
+
+fn assert_lines(rt: &impl Abort, lines: &[AtomList], wanted: &[&[AtomText]]) {
+    assert_eq!(rt; lines.len(), wanted.len());
+    for (line, atoms) in lines.iter().zip(wanted) {
+        assert_eq!(rt; line.as_slice(), *atoms);
+    }
+}
+
+#[test]
+fn reads_occupying_moves(rt: HostRuntime) -> Result<(), Fail> {
+    let text = b"#blackactions
+:action occupy
+:parameters (?x, ?y)
+:precondition (open(?x,?y))
+:effect (black(?x,?y))
+#whiteactions
+:action occupy
+:parameters (?x, ?y)
+:precondition (open(?x,?y))
+:effect (white(?x,?y))
+";
+    let domain = read_domain(rt.alloc(), text)?;
+    assert_occupies(&rt, domain.black.as_slice(), Mark::Black);
+    assert_occupies(&rt, domain.white.as_slice(), Mark::White);
+    Ok(())
+}
+
+#[test]
+fn reads_a_problem_with_everything(rt: HostRuntime) -> Result<(), Fail> {
+    let text = b"; a small board
+#boardsize 12 007
+#init (black(1,1) white(2,01)
+  open(12,7)) ; the corner
+#depth 31
+#blackgoals
+(black(?x,?y) black(?x+1,?y-2) open(3,ymin))
+()
+#whitegoals
+(white(xmin,ymax) white(xmax,004) black(?x-0,?y+999999999))
+";
+    let problem = read_problem(rt.alloc(), text)?;
+    assert_eq!(rt; (problem.width, problem.height, problem.depth), (12, 7, 31));
+    let cells = [
+        (Mark::Black, 1, 1),
+        (Mark::White, 2, 1),
+        (Mark::Free, 12, 7),
+    ];
+    assert_eq!(rt; problem.init.as_slice().len(), 3);
+    for (cell, (mark, x, y)) in problem.init.as_slice().iter().zip(cells) {
+        assert_eq!(rt; *cell, InitAtom { mark, x, y });
+    }
+    let first = [
+        atom(Mark::Black, TermText::Shift(0), TermText::Shift(0)),
+        atom(Mark::Black, TermText::Shift(1), TermText::Shift(-2)),
+        atom(Mark::Free, TermText::Number(3), TermText::Least),
+    ];
+    assert_lines(&rt, problem.black.as_slice(), &[first.as_slice(), &[]]);
+    let only = [
+        atom(Mark::White, TermText::Least, TermText::Greatest),
+        atom(Mark::White, TermText::Greatest, TermText::Number(4)),
+        atom(
+            Mark::Black,
+            TermText::Shift(0),
+            TermText::Shift(999_999_999),
+        ),
+    ];
+    assert_lines(&rt, problem.white.as_slice(), &[only.as_slice()]);
+    Ok(())
+}
+
+#[test]
+fn names_the_first_fault_of_a_domain(rt: HostRuntime) {
+    for (text, fault) in [
+        (b"".as_slice(), ends_early(1, 1)),
+        (
+            b"#blackactions :action a :parameters (?x, ?y) :precondition () :effect (",
+            ends_early(1, 72),
+        ),
+        (
+            b"#blackactions\n#whiteactions\r\n:action\r\n",
+            ends_early(4, 1),
+        ),
+        (b"#blackactions ; none", ends_early(1, 21)),
+        (
+            b"#blackactions\n:action a\n:parameters (?y",
+            unexpected(5, 3, 14),
+        ),
+        (
+            b"#blackactions ; one\n#whiteactions )",
+            unexpected(2, 2, 15),
+        ),
+        (b"#blackactions\r\r)", unexpected(1, 1, 16)),
+        (b"#boardsize 3 3", unexpected(0, 1, 1)),
+        (
+            b"#blackactions @",
+            ReadFault::Lex(LexFault::BadByte { at: 14 }),
+        ),
+        (
+            b"#whiteactions ; @\r\n@",
+            ReadFault::Lex(LexFault::BadByte { at: 19 }),
+        ),
+        (
+            b";\n:abcdefghijklmnopqrstuvwxyzABCDEFG",
+            ReadFault::Lex(LexFault::NameTooLong { at: 2 }),
+        ),
+    ] {
+        assert!(rt; text.len() <= 100);
+        assert_eq!(rt; read_domain(rt.alloc(), text).err(), Some(fault));
+    }
+}
+
+#[test]
+fn names_the_first_fault_of_a_problem(rt: HostRuntime) {
+    for (text, fault) in [
+        (b"".as_slice(), ends_early(1, 1)),
+        (b"#boardsize 3 3\n#init (", ends_early(2, 8)),
+        (b"#boardsize 3 3 ; wide\r\n", ends_early(2, 1)),
+        (b"#boardsize 3 3\n#init (black(1,?x", unexpected(9, 2, 16)),
+        (
+            b"#boardsize 3 3 ; wide\n#init () #depth ()",
+            unexpected(7, 2, 17),
+        ),
+        (b"#boardsize\r3\r3\r+", unexpected(3, 1, 16)),
+        (b"#blackactions", unexpected(0, 1, 1)),
+        (
+            b"#boardsize 3 0123456789",
+            ReadFault::Lex(LexFault::NumberTooLong { at: 13 }),
+        ),
+        (
+            b"#boardsize\n;3\n?z",
+            ReadFault::Lex(LexFault::BadByte { at: 14 }),
+        ),
+    ] {
+        assert!(rt; text.len() <= 100);
+        assert_eq!(rt; read_problem(rt.alloc(), text).err(), Some(fault));
+    }
+}
+
+#[test]
+fn refuses_what_ends_before_its_last_token(rt: HostRuntime) {
+    let domain = b"#blackactions :action a-1 :parameters (?x,?y) :precondition (open(?x+2,ymin))
+:effect () #whiteactions";
+    for len in 0..domain.len() {
+        let fault = read_domain(rt.alloc(), &domain[..len]).err();
+        assert!(rt; fault.is_some_and(|fault| fault != ReadFault::NoMemory));
+    }
+    let problem = b"#boardsize 4 4 #init (black(1,1)) #depth 3 #blackgoals (black(?x,?y))
+() #whitegoals";
+    for len in 0..problem.len() {
+        let fault = read_problem(rt.alloc(), &problem[..len]).err();
+        assert!(rt; fault.is_some_and(|fault| fault != ReadFault::NoMemory));
+    }
+}

@@ -1,0 +1,5 @@
+pub mod Outside
+pub mod Ends
+pub mod Puts
+pub mod Fakes
+pub mod Adapters

@@ -1,0 +1,10 @@
+//! A problem as a quantified formula.
+//!
+//! The formula is true exactly when Black can force its goal: read `Encodes` in
+//! `bddl_model/specs/Outcome.antt` first.
+#![tactic(auto)]
+
+mod bits;
+mod start;
+
+pub use start::{StartForm, start_form};
