@@ -1,43 +1,78 @@
--- Which texts are built, from what was read of them.
-use Rattle.std.proofs.Common.{ℕ, ◌≡◌, ◌≢◌, ◌≤◌, Bool, false, List, length, Result, Ok, Err, Option, None, Some, ⊎_elim, sym, subst}
-use Rattle.std.specs.Prelude.{◌↔◌, IsTrue, IfOk, MatchOption, MatchResult}
-use Rattle.bddl_model.specs.declared.memory.NoMemory.{NoMemory}
+-- Why two texts are not built.
+use Rattle.std.proofs.Common.{ℕ, ◌≡◌, Bool, true, false, List, Ok, Err, Option, inl, inr, refl, sym, subst}
+use Rattle.std.specs.Prelude.{◌↔◌, IsTrue}
+use Rattle.bddl_model.specs.declared.tokens.LexFault.TheVariants as lex
 use Rattle.bddl_model.specs.declared.fault.ReadFault.{ReadFault}
 use Rattle.bddl_model.specs.declared.fault.ReadFault.TheVariants as fault
 use Rattle.bddl_model.specs.declared.texts.DomainText.{DomainText}
 use Rattle.bddl_model.specs.declared.texts.ProblemText.{ProblemText}
 use Rattle.bddl_model.specs.Grammar.{domain, problem}
-use Rattle.bddl_model.specs.Reading.{Reads, UnlessNoMemory}
-use Rattle.bddl_model.specs.Outcome.{file_limit, no_actions, IsBuiltDomain, IsEmptyProblem, IsBuiltProblem}
+use Rattle.bddl_model.specs.Reading.{Reads, ReadFails}
+use Rattle.bddl_model.specs.Truth.{Formula}
+use Rattle.bddl_model.specs.FormulaText.{qtext}
+use Rattle.bddl_model.specs.Setup.{setup_of}
+use Rattle.bddl_model.specs.Outcome.{End, no_actions, IsBuilt, IsEmptyProblem, Encodes, CompileEnds, domain_fails, problem_fails, domain_not_built, problem_not_built, compiles, done}
+use Rattle.io_edge.specs.Outside.{with_bytes, WithFront}
+use Rattle.io_edge.specs.declared.sink.SinkEnd.{SinkEnd}
+use Rattle.io_edge.specs.declared.sink.SinkEnd.TheVariants as sink
+use Rattle.bddl_cli.specs.Ends.{FailsAs, fault_stop, StopsAt, Writes, stop_of_sink, reported}
+use Rattle.bddl_cli.specs.declared.refusal.GameText.TheVariants as game_text
+use Rattle.bddl_cli.specs.declared.refusal.Refusal.TheVariants as refusal
+use Rattle.bddl_cli.specs.declared.refusal.Stop.{Stop}
+use Rattle.bddl_cli.specs.declared.refusal.Stop.TheVariants as stop
 
-same_tree : {A : Type 0} (t u : A) → UnlessNoMemory (Ok t) (Ok u) → t ≡ u
-same_tree t u h = ⊎_elim (λ e. cc) (λ e. absurd (cc)) h
+domain_stop : (d p : List ℕ) (f : ReadFault) → ReadFails domain d f → StopsAt (CompileEnds d p) (fault_stop game_text.Domain d f)
+domain_stop d p (fault.Lex (lex.BadByte at)) h = domain_fails (fault.Lex (lex.BadByte at)) h refl
+domain_stop d p (fault.Lex (lex.NameTooLong at)) h = domain_fails (fault.Lex (lex.NameTooLong at)) h refl
+domain_stop d p (fault.Lex (lex.NumberTooLong at)) h = domain_fails (fault.Lex (lex.NumberTooLong at)) h refl
+domain_stop d p (fault.Lex lex.NoMemory) h = tt
+domain_stop d p (fault.Unexpected n place) h = domain_fails (fault.Unexpected n place) h refl
+domain_stop d p (fault.EndsEarly place) h = domain_fails (fault.EndsEarly place) h refl
+domain_stop d p fault.NoMemory h = tt
 
-not_read : {A : Type 0} (f : ReadFault) (u : A) → f ≢ fault.NoMemory → UnlessNoMemory {A = A} (Err f) (Ok u) → ⊥
-not_read f u other h = ⊎_elim (λ e. cc) (λ e. other (cc)) h
+problem_stop : (d p : List ℕ) (dom : DomainText) (f : ReadFault) → Reads domain d dom → ReadFails problem p f → StopsAt (CompileEnds d p) (fault_stop game_text.Problem p f)
+problem_stop d p dom (fault.Lex (lex.BadByte at)) r h = problem_fails dom (fault.Lex (lex.BadByte at)) r h refl
+problem_stop d p dom (fault.Lex (lex.NameTooLong at)) r h = problem_fails dom (fault.Lex (lex.NameTooLong at)) r h refl
+problem_stop d p dom (fault.Lex (lex.NumberTooLong at)) r h = problem_fails dom (fault.Lex (lex.NumberTooLong at)) r h refl
+problem_stop d p dom (fault.Lex lex.NoMemory) r h = tt
+problem_stop d p dom (fault.Unexpected n place) r h = problem_fails dom (fault.Unexpected n place) r h refl
+problem_stop d p dom (fault.EndsEarly place) r h = problem_fails dom (fault.EndsEarly place) r h refl
+problem_stop d p dom fault.NoMemory r h = tt
 
--- a domain that was read
-pub domain_is_built : (bytes : List ℕ) (tree : DomainText) (b : Bool) → length bytes ≤ file_limit → Reads domain bytes tree → ((t : DomainText) → Reads domain bytes t → UnlessNoMemory (Ok tree) (Ok t))
-    → IsTrue b ↔ (tree ≡ no_actions) → IsTrue b ↔ IsBuiltDomain bytes
-domain_is_built bytes tree b short found only h =
-    (λ yes. (short, subst (Reads domain bytes) (h.0 yes) found), λ built. h.1 (same_tree tree no_actions (only no_actions built.1)))
+pub domain_stops : (d p : List ℕ) (s : Stop) → FailsAs domain game_text.Domain d s → StopsAt (CompileEnds d p) s
+domain_stops d p s (inl e) = subst (StopsAt (CompileEnds d p)) (sym e) tt
+domain_stops d p s (inr (f, h, e)) = subst (StopsAt (CompileEnds d p)) (sym e) (domain_stop d p f h)
 
--- a domain that was refused
-pub domain_is_refused : (bytes : List ℕ) (f : ReadFault) (r : Result Bool NoMemory) → ((t : DomainText) → Reads domain bytes t → UnlessNoMemory (Err f) (Ok t))
-    → MatchResult r (λ answer. (answer ≡ false) × (f ≢ fault.NoMemory)) (λ _. f ≡ fault.NoMemory) → IfOk r (λ b. IsTrue b ↔ IsBuiltDomain bytes)
-domain_is_refused bytes f (Ok b) only h = (λ yes. absurd (cc (h.0, yes)), λ built. absurd (not_read f no_actions h.1 (only no_actions built.1)))
-domain_is_refused bytes f (Err e) only h = tt
+pub problem_stops : (d p : List ℕ) (dom : DomainText) (s : Stop) → Reads domain d dom → FailsAs problem game_text.Problem p s → StopsAt (CompileEnds d p) s
+problem_stops d p dom s r (inl e) = subst (StopsAt (CompileEnds d p)) (sym e) tt
+problem_stops d p dom s r (inr (f, h, e)) = subst (StopsAt (CompileEnds d p)) (sym e) (problem_stop d p dom f r h)
 
--- a problem that was read, and kept if it is empty
-pub problem_is_built : (bytes : List ℕ) (tree : ProblemText) (kept : Option ProblemText) → length bytes ≤ file_limit → Reads problem bytes tree → ((t : ProblemText) → Reads problem bytes t → UnlessNoMemory (Ok tree) (Ok t))
-    → MatchOption kept (IsEmptyProblem tree → ⊥) (λ t. (t ≡ tree) × IsEmptyProblem t) → MatchOption kept ((t : ProblemText) → IsBuiltProblem bytes t → ⊥) (IsBuiltProblem bytes)
-problem_is_built bytes tree None short found only h = λ t built. h (subst IsEmptyProblem (sym (same_tree tree t (only t built.1))) built.2)
-problem_is_built bytes tree (Some t) short found only h = (short, subst (Reads problem bytes) (sym h.0) found, h.1)
+pub has_actions : (d p : List ℕ) (dom : DomainText) (prob : ProblemText) (b : Bool) → Reads domain d dom → Reads problem p prob → b ≡ false → IsTrue b ↔ (dom ≡ no_actions)
+    → CompileEnds d p (reported refusal.DomainNotBuilt)
+has_actions d p dom prob b r q not h = domain_not_built dom prob r q (λ e. let holds = h.1 e in absurd (cc)) refl
 
--- a problem that was refused
-pub problem_is_refused : (bytes : List ℕ) (f : ReadFault) (r : Result (Option ProblemText) NoMemory) → ((t : ProblemText) → Reads problem bytes t → UnlessNoMemory (Err f) (Ok t))
-    → MatchResult r (λ answer. (answer ≡ None) × (f ≢ fault.NoMemory)) (λ _. f ≡ fault.NoMemory)
-    → IfOk r (λ found. MatchOption found ((t : ProblemText) → IsBuiltProblem bytes t → ⊥) (IsBuiltProblem bytes))
-problem_is_refused bytes f (Ok None) only h = λ t built. not_read f t h.1 (only t built.1)
-problem_is_refused bytes f (Ok (Some t)) only h = let e = h.0 in absurd (cc)
-problem_is_refused bytes f (Err e) only h = tt
+pub not_empty : (d p : List ℕ) (dom : DomainText) (prob : ProblemText) (b : Bool) → Reads domain d dom → Reads problem p prob → b ≡ true → IsTrue b ↔ (dom ≡ no_actions) → (IsEmptyProblem prob → ⊥)
+    → CompileEnds d p (reported refusal.ProblemNotBuilt)
+not_empty d p dom prob b r q holds h none = problem_not_built prob (subst (Reads domain d) (h.0 holds) r) q none refl
+
+pub is_built : (d p : List ℕ) (dom : DomainText) (prob tree : ProblemText) (b : Bool) → Reads domain d dom → Reads problem p prob → b ≡ true → IsTrue b ↔ (dom ≡ no_actions) → (tree ≡ prob) × IsEmptyProblem tree
+    → IsBuilt d p tree
+is_built d p dom prob tree b r q holds h e = (subst (Reads domain d) (h.0 holds) r, subst (Reads problem p) (sym e.0) q, e.1)
+
+-- ---- what was written
+
+pub stops_writing : (ends : End → Type 0) (s : Stop) (old : Option (List ℕ)) → StopsAt ends s → Writes ends old old (Err s)
+stops_writing ends (stop.Refused r) old h = (refl, h)
+stops_writing ends stop.WriteFault old h = absurd h
+stops_writing ends stop.NoMemory old h = inl refl
+
+module _ (d p : List ℕ) (tree : ProblemText) (form : Formula) (built : IsBuilt d p tree) (encodes : Encodes form (setup_of no_actions tree)) (old new : Option (List ℕ)) where
+  ends : CompileEnds d p (done (qtext form))
+  ends = compiles (qtext form) (tree, form, built, encodes, refl) refl
+
+  pub form_is_written : new ≡ with_bytes old (qtext form) → Writes (CompileEnds d p) old new (Ok tt)
+  form_is_written w = (qtext form, ends, w)
+
+  pub form_is_cut : (end : SinkEnd) → WithFront old new (qtext form) → Writes (CompileEnds d p) old new (Err (stop_of_sink end))
+  form_is_cut sink.Failed w = inr (done (qtext form), ends, w)
+  form_is_cut sink.NoMemory w = inr (done (qtext form), ends, w)

@@ -1,5 +1,6 @@
 pub mod FormTexts
 pub mod Added
+pub mod Files
 pub mod Built
 pub mod Requested
 pub mod Answered

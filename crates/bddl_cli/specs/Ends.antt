@@ -1,11 +1,22 @@
 -- How a request ended, against what it may end as.
-use Rattle.std.specs.Prelude.{ℕ, Bool, true, false, ◌≡◌, ◌≢◌, ◌⊎◌, List, [], Option, None, Some, Result, Ok, Err, Contains}
+use Rattle.std.specs.Prelude.{ℕ, Bool, true, false, ◌≡◌, ◌≢◌, ◌≤◌, ◌<◌, ◌⊎◌, List, length, Option, None, Some, Result, Ok, Err, Contains, codes}
+use Rattle.std.specs.FinMap.{get}
+use Rattle.bddl_model.specs.declared.tokens.LexFault.TheVariants as lex
+use Rattle.bddl_model.specs.declared.fault.ReadFault.{ReadFault}
+use Rattle.bddl_model.specs.declared.fault.ReadFault.TheVariants as fault
+use Rattle.bddl_model.specs.Tokens.{Lexeme}
+use Rattle.bddl_model.specs.Reading.{place_at, ReadFails}
+use Rattle.bddl_model.specs.Files.{Files}
 use Rattle.bddl_model.specs.Notes as notes
 use Rattle.bddl_model.specs.Request.{Request, file_words}
-use Rattle.bddl_model.specs.Outcome.{End}
+use Rattle.bddl_model.specs.Outcome.{End, refused, done, file_limit}
 use Rattle.io_edge.specs.Outside.{with_bytes, WithFront}
 use Rattle.io_edge.specs.declared.sink.SinkEnd.{SinkEnd}
 use Rattle.io_edge.specs.declared.sink.SinkEnd.TheVariants as sink
+use Rattle.bddl_cli.specs.declared.refusal.GameText.{GameText}
+use Rattle.bddl_cli.specs.declared.refusal.GameText.TheVariants as game_text
+use Rattle.bddl_cli.specs.declared.refusal.Trouble.{Trouble}
+use Rattle.bddl_cli.specs.declared.refusal.Trouble.TheVariants as trouble
 use Rattle.bddl_cli.specs.declared.refusal.Refusal.{Refusal}
 use Rattle.bddl_cli.specs.declared.refusal.Refusal.TheVariants as refusal
 use Rattle.bddl_cli.specs.declared.refusal.Stop.{Stop}
@@ -15,18 +26,66 @@ abbrev pub stop_of_sink : SinkEnd → Stop
 stop_of_sink sink.Failed = stop.WriteFault
 stop_of_sink sink.NoMemory = stop.NoMemory
 
-abbrev pub refused : ℕ → List ℕ → End
-refused status note = record { status = status; out = []; note = note }
+-- ---- refusals and their notes
 
-abbrev pub done : List ℕ → End
-done text = record { status = 0; out = text; note = [] }
+abbrev pub text_name : GameText → List ℕ
+text_name game_text.Domain = codes "domain"
+text_name game_text.Problem = codes "problem"
+
+abbrev pub words_of : Trouble → List ℕ
+words_of trouble.BadByte = codes "bad byte"
+words_of trouble.NameTooLong = codes "name too long"
+words_of trouble.NumberTooLong = codes "number too long"
+words_of trouble.UnexpectedWord = codes "unexpected word"
+words_of trouble.EndsEarly = codes "text ends early"
 
 -- what a refusal is reported as
 abbrev pub reported : Refusal → End
 reported refusal.NoRequest = refused 1 notes.no_such_request
+reported (refusal.ReadFault word) = refused 3 (notes.read_fault word)
+reported (refusal.TooLong word) = refused 2 (notes.too_long word file_limit)
+reported (refusal.Grammar text place what) = refused 2 (notes.place_note (text_name text) place (words_of what))
 reported refusal.DomainNotBuilt = refused 2 notes.domain_not_built
 reported refusal.ProblemNotBuilt = refused 2 notes.problem_not_built
-reported (refusal.ReadFault word) = refused 3 (notes.read_fault word)
+
+-- the byte that a fault of the lexer names is one of the text, or just behind it
+abbrev pub IsWithin : List ℕ → ReadFault → Type 0
+IsWithin bytes (fault.Lex (lex.BadByte at)) = at ≤ length bytes
+IsWithin bytes (fault.Lex (lex.NameTooLong at)) = at ≤ length bytes
+IsWithin bytes (fault.Lex (lex.NumberTooLong at)) = at ≤ length bytes
+IsWithin bytes f = Unit {0}
+
+-- what a fault of a text stops a request with
+abbrev pub fault_stop : GameText → List ℕ → ReadFault → Stop
+fault_stop text bytes (fault.Lex (lex.BadByte at)) = stop.Refused (refusal.Grammar text (place_at bytes at) trouble.BadByte)
+fault_stop text bytes (fault.Lex (lex.NameTooLong at)) = stop.Refused (refusal.Grammar text (place_at bytes at) trouble.NameTooLong)
+fault_stop text bytes (fault.Lex (lex.NumberTooLong at)) = stop.Refused (refusal.Grammar text (place_at bytes at) trouble.NumberTooLong)
+fault_stop text bytes (fault.Lex lex.NoMemory) = stop.NoMemory
+fault_stop text bytes (fault.Unexpected token place) = stop.Refused (refusal.Grammar text place trouble.UnexpectedWord)
+fault_stop text bytes (fault.EndsEarly place) = stop.Refused (refusal.Grammar text place trouble.EndsEarly)
+fault_stop text bytes fault.NoMemory = stop.NoMemory
+
+-- the reading of a text stops for its fault, or for want of memory
+abbrev pub FailsAs : {A : Type 0} → (List Lexeme → A → Type 0) → GameText → List ℕ → Stop → Type 0
+FailsAs grammar text bytes s = (s ≡ stop.NoMemory) ⊎ ((f : ReadFault) × ReadFails grammar bytes f × (s ≡ fault_stop text bytes f))
+
+-- ---- files
+
+-- where the files are told, this is the named one
+abbrev pub IsFile : Option Files → List ℕ → List ℕ → Type 0
+IsFile None name bytes = Unit {0}
+IsFile (Some files) name bytes = get files name ≡ Some bytes
+
+-- where the files are told, the named one is held and too long
+abbrev pub IsLongFile : Option Files → List ℕ → Type 0
+IsLongFile None name = Unit {0}
+IsLongFile (Some files) name = (file : List ℕ) × (get files name ≡ Some file) × (file_limit < length file)
+
+-- why the reading of the file that a word names stops
+abbrev pub IsReadEnd : Option Files → ℕ → List ℕ → Stop → Type 0
+IsReadEnd held word name (stop.Refused r) = (r ≡ refusal.ReadFault word) ⊎ ((r ≡ refusal.TooLong word) × IsLongFile held name)
+IsReadEnd held word name stop.WriteFault = ⊥
+IsReadEnd held word name stop.NoMemory = Unit {0}
 
 -- ---- a request without its report
 
@@ -40,6 +99,12 @@ Writes ends old new (Ok u) = (text : List ℕ) × ends (done text) × (new ≡ w
 Writes ends old new (Err (stop.Refused r)) = (new ≡ old) × ends (reported r)
 Writes ends old new (Err stop.WriteFault) = CutShort ends old new
 Writes ends old new (Err stop.NoMemory) = CutShort ends old new
+
+-- a request that may end so stops before it writes
+abbrev pub StopsAt : (End → Type 0) → Stop → Type 0
+StopsAt ends (stop.Refused r) = ends (reported r)
+StopsAt ends stop.WriteFault = ⊥
+StopsAt ends stop.NoMemory = Unit {0}
 
 -- a named file could not be read
 abbrev pub is_read_fault : {T : Type 0} → Result T Stop → Bool
@@ -55,17 +120,12 @@ is_write_fault (Err (stop.Refused r)) = false
 is_write_fault (Err stop.WriteFault) = true
 is_write_fault (Err stop.NoMemory) = false
 
--- a read ends with a fault of this word, or for want of memory
-abbrev pub IsReadEnd : ℕ → Stop → Type 0
-IsReadEnd word (stop.Refused r) = r ≡ refusal.ReadFault word
-IsReadEnd word stop.WriteFault = ⊥
-IsReadEnd word stop.NoMemory = Unit {0}
-
 -- a refusal that a request may meet
 abbrev pub MayMeet : Option Request → Refusal → Type 0
 MayMeet None r = r ≡ refusal.NoRequest
 MayMeet (Some request) refusal.NoRequest = ⊥
 MayMeet (Some request) (refusal.ReadFault word) = Contains (file_words (Some request)) word
+MayMeet (Some request) (refusal.TooLong word) = Contains (file_words (Some request)) word
 MayMeet (Some request) r = Unit {0}
 
 abbrev pub StopsAsMayBe : Option Request → Stop → Type 0

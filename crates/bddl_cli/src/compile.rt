@@ -1,16 +1,15 @@
 // The request `compile`.
-ghost use Rattle.std.specs.Prelude.{◌≡◌, ◌↔◌, ◌≤◌, ℕ, List, Some, true, false, IfSome, IfOk, IfErr, IsTrue, MatchOption, MatchResult, ◌≢◌};
-ghost use Rattle.bddl_model.specs.Outcome.{RequestEnds, CompileEnds, IsBuiltDomain, IsBuiltProblem, IsEmptyProblem, no_actions};
+ghost use Rattle.std.specs.Prelude.{◌≡◌, ◌↔◌, ◌≤◌, ℕ, List, Some, true, false, IfSome, IfOk, IfErr, IsTrue, MatchOption, length};
+ghost use Rattle.bddl_model.specs.Outcome.{RequestEnds, CompileEnds, IsBuilt, IsEmptyProblem, no_actions};
 ghost use Rattle.bddl_model.specs.Request as spec;
-ghost use Rattle.bddl_model.specs.declared.texts.ProblemText.{ProblemText};
 ghost use Rattle.io_edge.specs.Outside.{Counts};
-ghost use Rattle.bddl_cli.specs.Ends.{Writes, StopsAsMayBe, KeepsOut, is_read_fault, is_write_fault};
+ghost use Rattle.bddl_cli.specs.Ends.{Writes, StopsAt, StopsAsMayBe, KeepsOut, is_read_fault, is_write_fault};
 
 use crate::form_text::write_form;
-use crate::read::{FILE_LIMIT, read_named};
+use crate::game_texts::{domain_tree, problem_tree};
+use crate::read::read_named;
 use crate::refusal::{Refusal, Stop};
-use bddl_model::{DomainText, NoMemory, ProblemText, ReadFault};
-use bddl_reader::{read_domain, read_problem};
+use bddl_model::{DomainText, ProblemText};
 use io_edge::{Shelf, Sink};
 use lifted_encode::start_form;
 use std::alloc::Global;
@@ -44,32 +43,38 @@ fn write_compiled<K: Sink>(
     problem: &[u8],
     out: &mut K,
 ) -> Result<(), Stop>
+    requires domain_short { length domain.now ≤ 1048576 }
+    requires problem_short { length problem.now ≤ 1048576 }
     ensures written { Writes (CompileEnds domain.now problem.now) (K.written out.old) (K.written out.new) result }
     ensures kept { KeepsOut (K.written out.old) (K.written out.new) result }
     ensures cause { Counts (K.faults out.old) (K.faults out.new) (is_write_fault result) }
     ensures no_read { is_read_fault result ≡ false }
     ensures stops { (d p : List ℕ) → IfErr result (StopsAsMayBe (Some (spec.compile d p))) }
 {
-    if !is_built_domain(alloc, domain)? {
-        return Err(Stop::Refused(Refusal::DomainNotBuilt));
-    }
-    let Some(tree) = built_problem(alloc, problem)? else {
-        return Err(Stop::Refused(Refusal::ProblemNotBuilt));
-    };
+    let tree = built_problem(alloc, domain, problem)?;
     let form = start_form(alloc, &tree)?;
     write_form(&form, out)?;
     Ok(())
 }
 
-fn is_built_domain(alloc: Global, bytes: &[u8]) -> Result<bool, NoMemory>
-    ensures { IfOk result (λ built. IsTrue built ↔ IsBuiltDomain bytes.now) }
+// The problem of two texts, where it is one that is built.
+fn built_problem(alloc: Global, domain: &[u8], problem: &[u8]) -> Result<ProblemText, Stop>
+    requires domain_short { length domain.now ≤ 1048576 }
+    requires problem_short { length problem.now ≤ 1048576 }
+    ensures found { IfOk result (IsBuilt domain.now problem.now) }
+    ensures stop { IfErr result (StopsAt (CompileEnds domain.now problem.now)) }
+    ensures stops { (d p : List ℕ) → IfErr result (StopsAsMayBe (Some (spec.compile d p))) }
+    ensures no_write { is_write_fault result ≡ false }
+    ensures no_read { is_read_fault result ≡ false }
 {
-    if bytes.len() as u64 > FILE_LIMIT {
-        return Ok(false);
+    let domain = domain_tree(alloc, domain)?;
+    let problem = problem_tree(alloc, problem)?;
+    if !has_no_actions(&domain) {
+        return Err(Stop::Refused(Refusal::DomainNotBuilt));
     }
-    match read_domain(alloc, bytes) {
-        Ok(tree) => Ok(has_no_actions(&tree)),
-        Err(fault) => refused_unless_no_memory(fault, false),
+    match if_empty(problem) {
+        Some(tree) => Ok(tree),
+        None => Err(Stop::Refused(Refusal::ProblemNotBuilt)),
     }
 }
 
@@ -77,28 +82,6 @@ fn has_no_actions(tree: &DomainText) -> bool
     ensures { IsTrue result ↔ (tree.now ≡ no_actions) }
 {
     tree.black.as_slice().is_empty() && tree.white.as_slice().is_empty()
-}
-
-// A text that is refused is answered, and want of memory is passed on.
-fn refused_unless_no_memory<T: Drop>(fault: ReadFault, refused: T) -> Result<T, NoMemory>
-    ensures { MatchResult result (λ answer. (answer ≡ refused) × (fault ≢ ReadFault.NoMemory)) (λ _. fault ≡ ReadFault.NoMemory) }
-{
-    match fault {
-        ReadFault::NoMemory => Err(NoMemory),
-        _ => Ok(refused),
-    }
-}
-
-fn built_problem(alloc: Global, bytes: &[u8]) -> Result<Option<ProblemText>, NoMemory>
-    ensures { IfOk result (λ found. MatchOption found ((tree : ProblemText) → IsBuiltProblem bytes.now tree → ⊥) (IsBuiltProblem bytes.now)) }
-{
-    if bytes.len() as u64 > FILE_LIMIT {
-        return Ok(None);
-    }
-    match read_problem(alloc, bytes) {
-        Ok(tree) => Ok(if_empty(tree)),
-        Err(fault) => refused_unless_no_memory(fault, None),
-    }
 }
 
 fn if_empty(tree: ProblemText) -> Option<ProblemText>

@@ -6,6 +6,7 @@
 
 mod compile;
 mod form_text;
+mod game_texts;
 mod read;
 mod refusal;
 mod request;

@@ -1,8 +1,8 @@
 // The files that the words name.
-ghost use Rattle.std.specs.Prelude.{◌≡◌, Some, None, IfOk, IfErr, IsTrue};
+ghost use Rattle.std.specs.Prelude.{◌≡◌, ◌≤◌, None, IfOk, IfErr, IsTrue, length};
 ghost use Rattle.bddl_model.specs.Files.{file_at};
-ghost use Rattle.io_edge.specs.Outside.{Counts, Delivers};
-ghost use Rattle.bddl_cli.specs.Ends.{IsReadEnd, is_read_fault};
+ghost use Rattle.io_edge.specs.Outside.{Counts};
+ghost use Rattle.bddl_cli.specs.Ends.{IsFile, IsReadEnd, is_read_fault};
 
 use crate::refusal::{Refusal, Stop};
 use io_edge::{Shelf, ShelfEnd};
@@ -18,8 +18,9 @@ pub fn read_named<S: Shelf>(
     word: u8,
     name: &[u8],
 ) -> Result<Vec<u8>, Stop>
-    ensures ok { IfOk result (λ bytes. Delivers (S.held shelf.old) name.now (Some FILE_LIMIT) bytes.items) }
-    ensures err { IfErr result (IsReadEnd word) }
+    ensures file { IfOk result (λ bytes. IsFile (S.held shelf.old) name.now bytes.items) }
+    ensures short { IfOk result (λ bytes. length bytes.items ≤ FILE_LIMIT) }
+    ensures err { IfErr result (IsReadEnd (S.held shelf.old) word name.now) }
     ensures held { S.held shelf.new ≡ S.held shelf.old }
     ensures cause { Counts (S.faults shelf.old) (S.faults shelf.new) (is_read_fault result) }
     ensures calm { S.calm shelf.old → S.calm shelf.new }
@@ -27,8 +28,12 @@ pub fn read_named<S: Shelf>(
 {
     let mut bytes = Vec::new(alloc);
     match shelf.read(name, Some(FILE_LIMIT), &mut bytes) {
-        Ok(()) => Ok(bytes),
-        Err(ShelfEnd::Failed) => Err(Stop::Refused(Refusal::ReadFault(word))),
-        Err(ShelfEnd::NoMemory) => Err(Stop::NoMemory),
+        Ok(()) => {}
+        Err(ShelfEnd::Failed) => return Err(Stop::Refused(Refusal::ReadFault(word))),
+        Err(ShelfEnd::NoMemory) => return Err(Stop::NoMemory),
     }
+    if bytes.len() as u64 > FILE_LIMIT {
+        return Err(Stop::Refused(Refusal::TooLong(word)));
+    }
+    Ok(bytes)
 }

@@ -2,17 +2,41 @@ ghost use Rattle.std.specs.Prelude.{◌≡◌};
 ghost use Rattle.bddl_cli.specs.Ends.{stop_of_sink};
 ghost use Rattle.bddl_cli.specs.declared.refusal.Stop.TheVariants.{NoMemory as out_of_memory};
 
-use bddl_model::NoMemory;
+use bddl_model::{NoMemory, Place};
 use io_edge::SinkEnd;
+
+/// The two texts of a game.
+#[derive(Clone, Copy, Debug, PartialEq, Eq)]
+pub enum GameText {
+    Domain,
+    Problem,
+}
+
+/// What is wrong at a place of a text.
+#[derive(Clone, Copy, Debug, PartialEq, Eq)]
+pub enum Trouble {
+    BadByte,
+    NameTooLong,
+    NumberTooLong,
+    UnexpectedWord,
+    EndsEarly,
+}
 
 /// Why a request is not carried out, as its note tells.
 #[derive(Clone, Copy, Debug, PartialEq, Eq)]
 pub enum Refusal {
     NoRequest,
-    DomainNotBuilt,
-    ProblemNotBuilt,
     /// The number of the word that names the file.
     ReadFault(u8),
+    /// The number of the word that names the file.
+    TooLong(u8),
+    Grammar {
+        text: GameText,
+        place: Place,
+        trouble: Trouble,
+    },
+    DomainNotBuilt,
+    ProblemNotBuilt,
 }
 
 /// Why a request was not carried out to its end.

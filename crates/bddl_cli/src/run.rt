@@ -3,11 +3,14 @@ ghost use Rattle.std.specs.Prelude.{◌≡◌, ◌==◌, ◌≢◌, ◌<◌, ◌
 ghost use Rattle.bddl_model.specs.Outcome.{End, RequestEnds, Compiled};
 ghost use Rattle.bddl_model.specs.Request.{request_of};
 ghost use Rattle.io_edge.specs.Outside.{Counts, Rose, with_bytes};
-ghost use Rattle.bddl_cli.specs.Ends.{Writes, Tells, Answers, EndsAs, MayMeet, StopsAsMayBe, KeepsOut, is_read_fault, is_write_fault, reported};
+ghost use Rattle.bddl_cli.specs.Ends.{Writes, Tells, Answers, EndsAs, MayMeet, StopsAsMayBe, KeepsOut, is_read_fault, is_write_fault, reported, text_name, words_of};
+ghost use Rattle.bddl_model.specs.Notes.{place_note};
 
 use crate::compile::compile;
-use crate::refusal::{Refusal, Stop};
+use crate::read::FILE_LIMIT;
+use crate::refusal::{GameText, Refusal, Stop, Trouble};
 use crate::request::{Request, read_request};
+use bddl_model::Place;
 use io_edge::{Shelf, Sink, SinkEnd, put_text};
 use std::alloc::{AllocError, Global};
 
@@ -85,7 +88,10 @@ fn status_of(refusal: Refusal) -> u8
 {
     match refusal {
         Refusal::NoRequest => 1,
-        Refusal::DomainNotBuilt | Refusal::ProblemNotBuilt => 2,
+        Refusal::TooLong(_)
+        | Refusal::Grammar { .. }
+        | Refusal::DomainNotBuilt
+        | Refusal::ProblemNotBuilt => 2,
         Refusal::ReadFault(_) => 3,
     }
 }
@@ -96,9 +102,45 @@ fn text_of(alloc: Global, refusal: Refusal) -> Result<String, AllocError>
 {
     match refusal {
         Refusal::NoRequest => format!(in alloc; "no such request\n"),
+        Refusal::ReadFault(word) => format!(in alloc; "word {word}: read fault\n"),
+        Refusal::TooLong(word) => format!(in alloc;
+            "word {word}: longer than {FILE_LIMIT} bytes\n"
+        ),
+        Refusal::Grammar {
+            text,
+            place,
+            trouble,
+        } => place_text(alloc, text, place, words_of(trouble)),
         Refusal::DomainNotBuilt => format!(in alloc; "domain: not built\n"),
         Refusal::ProblemNotBuilt => format!(in alloc; "problem: not built\n"),
-        Refusal::ReadFault(word) => format!(in alloc; "word {word}: read fault\n"),
+    }
+}
+
+fn place_text(
+    alloc: Global,
+    text: GameText,
+    place: Place,
+    words: &str,
+) -> Result<String, AllocError>
+    ensures { IfOk result (λ line. string_bytes line ≡ place_note (text_name text) place words.now) }
+{
+    let line = place.line;
+    let column = place.column;
+    match text {
+        GameText::Domain => format!(in alloc; "domain:{line}:{column}: {words}\n"),
+        GameText::Problem => format!(in alloc; "problem:{line}:{column}: {words}\n"),
+    }
+}
+
+fn words_of(trouble: Trouble) -> &'static str
+    ensures { result.now ≡ words_of trouble }
+{
+    match trouble {
+        Trouble::BadByte => "bad byte",
+        Trouble::NameTooLong => "name too long",
+        Trouble::NumberTooLong => "number too long",
+        Trouble::UnexpectedWord => "unexpected word",
+        Trouble::EndsEarly => "text ends early",
     }
 }
 

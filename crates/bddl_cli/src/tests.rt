@@ -2,6 +2,7 @@ use crate::run::run;
 use bddl_model::NoMemory;
 use io_edge::{MemoryShelf, MemorySink, SteadySink};
 use std::alloc::{AllocError, Global};
+use std::process::Abort;
 use std::test::Fail;
 
 const DOMAIN: &[u8] = b"#blackactions #whiteactions";
@@ -118,73 +119,142 @@ fn a_file_that_is_not_held_is_told_by_its_word(rt: HostRuntime) -> Result<(), Fa
     Ok(())
 }
 
+// A refusal of two texts: status 2, nothing in out, and this note.
+fn assert_refused(
+    rt: &impl Abort,
+    alloc: Global,
+    domain: &[u8],
+    problem: &[u8],
+    note: &[u8],
+) -> Result<(), Fail> {
+    let mut shelf = shelf_of(alloc, domain, problem)?;
+    let answer = answer_of(alloc, &[b"compile", b"d", b"p"], &mut shelf)?;
+    assert_eq!(rt; answer.note.as_slice(), note);
+    assert_eq!(rt; answer.status, 2);
+    assert!(rt; answer.out.is_empty());
+    Ok(())
+}
+
 #[test]
-fn other_texts_are_not_built(rt: HostRuntime) -> Result<(), Fail> {
-    let cases: [(&[u8], &[u8]); 13] = [
-        (b"", PROBLEM),
-        (b"#whiteactions #blackactions", PROBLEM),
-        (b"#blackactions #whiteactions @", PROBLEM),
+fn other_games_are_not_built(rt: HostRuntime) -> Result<(), Fail> {
+    let action: &[u8] =
+        b"#blackactions #whiteactions :action a :parameters (?x, ?y) :precondition () :effect ()";
+    let problems: [&[u8]; 6] = [
+        b"#boardsize 17 1 #init () #depth 0 #blackgoals #whitegoals",
+        b"#boardsize 1 0 #init () #depth 0 #blackgoals #whitegoals",
+        b"#boardsize 1 1 #init () #depth 1 #blackgoals #whitegoals",
+        b"#boardsize 1 1 #init (open(1,1)) #depth 0 #blackgoals #whitegoals",
+        b"#boardsize 1 1 #init () #depth 0 #blackgoals () #whitegoals",
+        b"#boardsize 1 1 #init () #depth 0 #blackgoals #whitegoals (black(?x,ymax))",
+    ];
+    for problem in &problems {
+        assert_refused(&rt, rt.alloc(), action, problem, b"domain: not built\n")?;
+        assert_refused(&rt, rt.alloc(), DOMAIN, problem, b"problem: not built\n")?;
+    }
+    Ok(())
+}
+
+#[test]
+fn faults_of_a_domain_are_told_with_their_places(rt: HostRuntime) -> Result<(), Fail> {
+    let cases: [(&[u8], &[u8]); 9] = [
+        (b"", b"domain:1:1: text ends early\n"),
         (
-            b"#blackactions #whiteactions :action a :parameters (?x, ?y) :precondition () :effect ()",
-            b"",
-        ),
-        (DOMAIN, b""),
-        (
-            DOMAIN,
-            b"#boardsize 17 1 #init () #depth 0 #blackgoals #whitegoals",
-        ),
-        (
-            DOMAIN,
-            b"#boardsize 1 0 #init () #depth 0 #blackgoals #whitegoals",
-        ),
-        (
-            DOMAIN,
-            b"#boardsize 1 1 #init () #depth 1 #blackgoals #whitegoals",
-        ),
-        (
-            DOMAIN,
-            b"#boardsize 1 1 #init (open(1,1)) #depth 0 #blackgoals #whitegoals",
-        ),
-        (
-            DOMAIN,
-            b"#boardsize 1 1 #init () #depth 0 #blackgoals () #whitegoals",
+            b"#blackactions :action a :parameters (?x, ?y) :precondition () :effect (",
+            b"domain:1:72: text ends early\n",
         ),
         (
-            DOMAIN,
-            b"#boardsize 1 1 #init () #depth 0 #blackgoals #whitegoals (black(1,1))",
+            b"#blackactions\n\n; the end\n",
+            b"domain:4:1: text ends early\n",
+        ),
+        (b"#blackactions @", b"domain:1:15: bad byte\n"),
+        (
+            b"#blackactions ; a comment @\n  ?z",
+            b"domain:2:3: bad byte\n",
         ),
         (
-            DOMAIN,
-            b"#boardsize 1 1 #init () #depth 0 #blackgoals #whitegoals #whitegoals",
+            b"#blackactions\r\n:action a234567890123456789012345678901_3",
+            b"domain:2:9: name too long\n",
         ),
         (
-            DOMAIN,
-            b"#boardsize 0000000001 1 #init () #depth 0 #blackgoals #whitegoals",
+            b"#blackactions\r1234567890",
+            b"domain:1:15: number too long\n",
+        ),
+        (
+            b"#whiteactions #blackactions",
+            b"domain:1:1: unexpected word\n",
+        ),
+        (
+            b"#blackactions\n#whiteactions\n\t)",
+            b"domain:3:2: unexpected word\n",
         ),
     ];
-    for (i, (domain, problem)) in cases.iter().enumerate() {
-        let mut shelf = shelf_of(rt.alloc(), domain, problem)?;
-        let answer = answer_of(rt.alloc(), &[b"compile", b"d", b"p"], &mut shelf)?;
-        assert_eq!(rt; answer.status, 2, "case {i}");
-        let note: &[u8] = if i < 4 {
-            b"domain: not built\n"
-        } else {
-            b"problem: not built\n"
-        };
-        assert_eq!(rt; answer.note.as_slice(), note, "case {i}");
-        assert!(rt; answer.out.is_empty());
+    for (domain, note) in &cases {
+        assert_refused(&rt, rt.alloc(), domain, b"", note)?;
+    }
+    Ok(())
+}
+
+#[test]
+fn faults_of_a_problem_are_told_with_their_places(rt: HostRuntime) -> Result<(), Fail> {
+    let cases: [(&[u8], &[u8]); 7] = [
+        (b"", b"problem:1:1: text ends early\n"),
+        (
+            b"#boardsize 1 1 #init (",
+            b"problem:1:23: text ends early\n",
+        ),
+        (b"#boardsize :", b"problem:1:12: bad byte\n"),
+        (
+            b"#boardsize 1 1\n; 1234567890\r\n #init 0000000001",
+            b"problem:3:8: number too long\n",
+        ),
+        (
+            b"#boardsize 1 1 #init (b234567890123456789012345678901_3",
+            b"problem:1:23: name too long\n",
+        ),
+        (
+            b"#boardsize 1 1 #init (black(1,1)\n#depth 0",
+            b"problem:2:1: unexpected word\n",
+        ),
+        (
+            b"#boardsize 1 1 #init () #depth 0 #blackgoals #whitegoals ()x",
+            b"problem:1:60: unexpected word\n",
+        ),
+    ];
+    let action: &[u8] =
+        b"#blackactions :action a :parameters (?x, ?y) :precondition () :effect () #whiteactions";
+    for (problem, note) in &cases {
+        assert_refused(&rt, rt.alloc(), DOMAIN, problem, note)?;
+        assert_refused(&rt, rt.alloc(), action, problem, note)?;
     }
     Ok(())
 }
 
 #[test]
 fn a_file_may_be_as_long_as_the_limit(rt: HostRuntime) -> Result<(), Fail> {
-    for (length, status) in [(1_048_576, 0), (1_048_577, 2)] {
-        let mut domain = DOMAIN.to_vec(rt.alloc())?;
-        domain.resize(length, b' ')?;
-        let mut shelf = shelf_of(rt.alloc(), &domain, PROBLEM)?;
-        let answer = answer_of(rt.alloc(), &[b"compile", b"d", b"p"], &mut shelf)?;
-        assert_eq!(rt; answer.status, status);
+    let alloc = rt.alloc();
+    let mut longest = DOMAIN.to_vec(alloc)?;
+    longest.resize(1_048_576, b' ')?;
+    let mut longer = DOMAIN.to_vec(alloc)?;
+    longer.resize(1_048_577, b' ')?;
+    let mut shelf = shelf_of(alloc, DOMAIN, PROBLEM)?;
+    shelf.put_file(b"longest", &longest)?;
+    shelf.put_file(b"longer", &longer)?;
+    let cases: [(&[u8], &[u8], u8, &[u8]); 5] = [
+        (b"longest", b"p", 0, b""),
+        (b"longer", b"p", 2, b"word 2: longer than 1048576 bytes\n"),
+        (
+            b"longer",
+            b"missing",
+            2,
+            b"word 2: longer than 1048576 bytes\n",
+        ),
+        (b"missing", b"longer", 3, b"word 2: read fault\n"),
+        (b"p", b"longer", 2, b"word 3: longer than 1048576 bytes\n"),
+    ];
+    for (domain, problem, status, note) in &cases {
+        let answer = answer_of(alloc, &[b"compile", domain, problem], &mut shelf)?;
+        assert_eq!(rt; answer.status, *status);
+        assert_eq!(rt; answer.note.as_slice(), *note);
     }
     Ok(())
 }

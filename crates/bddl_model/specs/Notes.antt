@@ -1,6 +1,12 @@
 -- The lines that tell why a request was not carried out.
-use Rattle.std.specs.Prelude.{ℕ, List, ◌++◌, codes}
+use Rattle.std.specs.Prelude.{ℕ, List, [], ◌++◌, codes}
 use Rattle.std.specs.Fmt.{decimal}
+use Rattle.bddl_model.specs.declared.texts.Place.{Place}
+use Rattle.bddl_model.specs.declared.tokens.LexFault.{LexFault}
+use Rattle.bddl_model.specs.declared.tokens.LexFault.TheVariants as lex
+use Rattle.bddl_model.specs.declared.fault.ReadFault.{ReadFault}
+use Rattle.bddl_model.specs.declared.fault.ReadFault.TheVariants as fault
+use Rattle.bddl_model.specs.Reading.{place_at}
 
 abbrev pub no_such_request : List ℕ
 no_such_request = codes "no such request\n"
@@ -9,8 +15,47 @@ no_such_request = codes "no such request\n"
 abbrev pub read_fault : ℕ → List ℕ
 read_fault word = codes "word " ++ (decimal word ++ codes ": read fault\n")
 
+abbrev pub too_long : ℕ → ℕ → List ℕ
+too_long word limit = codes "word " ++ (decimal word ++ (codes ": longer than " ++ (decimal limit ++ codes " bytes\n")))
+
 abbrev pub domain_not_built : List ℕ
 domain_not_built = codes "domain: not built\n"
 
 abbrev pub problem_not_built : List ℕ
 problem_not_built = codes "problem: not built\n"
+
+-- ---- texts that can't be read
+
+abbrev pub lexical_words : LexFault → List ℕ
+lexical_words (lex.BadByte at) = codes "bad byte"
+lexical_words (lex.NameTooLong at) = codes "name too long"
+lexical_words (lex.NumberTooLong at) = codes "number too long"
+lexical_words lex.NoMemory = []
+
+abbrev pub lexical_place : List ℕ → LexFault → Place
+lexical_place bytes (lex.BadByte at) = place_at bytes at
+lexical_place bytes (lex.NameTooLong at) = place_at bytes at
+lexical_place bytes (lex.NumberTooLong at) = place_at bytes at
+lexical_place bytes lex.NoMemory = place_at bytes 0
+
+abbrev pub fault_words : ReadFault → List ℕ
+fault_words (fault.Lex f) = lexical_words f
+fault_words (fault.Unexpected token place) = codes "unexpected word"
+fault_words (fault.EndsEarly place) = codes "text ends early"
+fault_words fault.NoMemory = []
+
+abbrev pub fault_place : List ℕ → ReadFault → Place
+fault_place bytes (fault.Lex f) = lexical_place bytes f
+fault_place bytes (fault.Unexpected token place) = place
+fault_place bytes (fault.EndsEarly place) = place
+fault_place bytes fault.NoMemory = place_at bytes 0
+
+-- the text's kind, its line and column, and what is wrong there
+abbrev pub place_note : List ℕ → Place → List ℕ → List ℕ
+place_note text place words = text ++ (codes ":" ++ (decimal place.line ++ (codes ":" ++ (decimal place.column ++ (codes ": " ++ (words ++ codes "\n"))))))
+
+abbrev pub domain_fault : List ℕ → ReadFault → List ℕ
+domain_fault bytes f = place_note (codes "domain") (fault_place bytes f) (fault_words f)
+
+abbrev pub problem_fault : List ℕ → ReadFault → List ℕ
+problem_fault bytes f = place_note (codes "problem") (fault_place bytes f) (fault_words f)

@@ -1,5 +1,5 @@
 -- What a command line comes to, by the files that are held.
-use Rattle.std.specs.Prelude.{ℕ, ◌≡◌, ◌+◌, ◌≤◌, ◌⊎◌, List, [], ◌++◌, length, Bool, IsTrue, Option, None, Some}
+use Rattle.std.specs.Prelude.{ℕ, ◌≡◌, ◌+◌, ◌<◌, ◌≤◌, ◌⊎◌, List, [], ◌++◌, length, Bool, IsTrue, Option, None, Some}
 use Rattle.std.specs.FinMap.{get}
 use Rattle.bddl_model.specs.declared.formula.Quant.TheVariants.{Exists}
 use Rattle.bddl_model.specs.declared.texts.DomainText.{DomainText}
@@ -8,7 +8,8 @@ use Rattle.bddl_model.specs.Files.{Files}
 use Rattle.bddl_model.specs.Request.{Request, compile}
 use Rattle.bddl_model.specs.Notes as notes
 use Rattle.bddl_model.specs.Grammar.{domain, problem}
-use Rattle.bddl_model.specs.Reading.{Reads}
+use Rattle.bddl_model.specs.declared.fault.ReadFault.{ReadFault}
+use Rattle.bddl_model.specs.Reading.{Reads, ReadFails}
 use Rattle.bddl_model.specs.Truth.{Formula, form_value}
 use Rattle.bddl_model.specs.Forms.{IsForm}
 use Rattle.bddl_model.specs.FormulaText.{qtext}
@@ -23,11 +24,11 @@ pub record End : Type 0 where
   pub note : List ℕ
 
 -- nothing is written, and the note tells why
-abbrev pub Refused : ℕ → List ℕ → End → Type 0
-Refused status note end = end ≡ record { status = status; out = []; note = note }
+abbrev pub refused : ℕ → List ℕ → End
+refused status note = record { status = status; out = []; note = note }
 
-abbrev pub Done : List ℕ → End → Type 0
-Done text end = end ≡ record { status = 0; out = text; note = [] }
+abbrev pub done : List ℕ → End
+done text = record { status = 0; out = text; note = [] }
 
 -- ---- compiling
 
@@ -38,10 +39,6 @@ file_limit = 1048576
 abbrev pub no_actions : DomainText
 no_actions = record { black = []; white = [] }
 
--- a domain without actions
-abbrev pub IsBuiltDomain : List ℕ → Type 0
-IsBuiltDomain bytes = (length bytes ≤ file_limit) × Reads domain bytes no_actions
-
 -- a board of 1 to 16 by 1 to 16, depth 0, no init atom and no goal line
 pub record IsEmptyProblem (p : ProblemText) : Type 0 where
   pub width : (1 ≤ p.width) × (p.width ≤ 16)
@@ -51,36 +48,42 @@ pub record IsEmptyProblem (p : ProblemText) : Type 0 where
   pub black : p.black ≡ []
   pub white : p.white ≡ []
 
-abbrev pub IsBuiltProblem : List ℕ → ProblemText → Type 0
-IsBuiltProblem bytes p = (length bytes ≤ file_limit) × Reads problem bytes p × IsEmptyProblem p
-
 -- The prefix is that of the inputs, with existential variables behind them; the value is that of winning.
 pub record Encodes (form : Formula) (s : Setup) : Type 0 where
   pub prefix : (gates : ℕ) × (form.prefix ≡ prefix_of (blocks (layout s.game s.first s.depth)) ++ bounds Exists ((layout s.game s.first s.depth).inputs + 1) gates)
   pub proper : IsForm form
   pub value : form_value form ≡ win s.game s.first s.board s.depth
 
+-- the texts are a domain without actions and this problem, which is empty
+abbrev pub IsBuilt : List ℕ → List ℕ → ProblemText → Type 0
+IsBuilt d p tree = Reads domain d no_actions × Reads problem p tree × IsEmptyProblem tree
+
 -- compiling two texts writes the text of a form that encodes their setup
 abbrev pub Compiles : List ℕ → List ℕ → List ℕ → Type 0
-Compiles d p text = (tree : ProblemText) × (form : Formula) × IsBuiltDomain d × IsBuiltProblem p tree × Encodes form (setup_of no_actions tree) × (text ≡ qtext form)
+Compiles d p text = (tree : ProblemText) × (form : Formula) × IsBuilt d p tree × Encodes form (setup_of no_actions tree) × (text ≡ qtext form)
 
--- what compiling two texts may end as
-abbrev pub CompileEnds : List ℕ → List ℕ → End → Type 0
-CompileEnds d p end =
-    ((IsBuiltDomain d → ⊥) × Refused 2 notes.domain_not_built end)
-    ⊎ ((IsBuiltDomain d × ((tree : ProblemText) → IsBuiltProblem p tree → ⊥) × Refused 2 notes.problem_not_built end)
-    ⊎ ((text : List ℕ) × Compiles d p text × Done text end))
+-- What compiling two texts may end as: a fault of the domain's text is told, or else of the problem's; then a domain that has actions, or else a problem that is not empty. Else a text is written.
+pub data CompileEnds (d p : List ℕ) (end : End) : Type 0 where
+  domain_fails : (f : ReadFault) → ReadFails domain d f → end ≡ refused 2 (notes.domain_fault d f) → CompileEnds d p end
+  problem_fails : (dom : DomainText) (f : ReadFault) → Reads domain d dom → ReadFails problem p f → end ≡ refused 2 (notes.problem_fault p f) → CompileEnds d p end
+  domain_not_built : (dom : DomainText) (prob : ProblemText) → Reads domain d dom → Reads problem p prob → (dom ≡ no_actions → ⊥) → end ≡ refused 2 notes.domain_not_built → CompileEnds d p end
+  problem_not_built : (prob : ProblemText) → Reads domain d no_actions → Reads problem p prob → (IsEmptyProblem prob → ⊥) → end ≡ refused 2 notes.problem_not_built → CompileEnds d p end
+  compiles : (text : List ℕ) → Compiles d p text → end ≡ done text → CompileEnds d p end
 
 -- ---- every request
 
--- Goes on with a file, or tells that the word of this number names none. Where reads may fail, one of a file that is held may too.
+-- Goes on with a file that is not too long, or tells what is wrong with the word of this number: it names no file, or one that
+-- is too long. Where reads may fail (`faulty`), the read of a file that is held may too.
 abbrev pub FileThen : Bool → ℕ → Option (List ℕ) → (List ℕ → End → Type 0) → End → Type 0
-FileThen faulty word None next end = Refused 3 (notes.read_fault word) end
-FileThen faulty word (Some file) next end = next file end ⊎ (IsTrue faulty × Refused 3 (notes.read_fault word) end)
+FileThen faulty word None next end = end ≡ refused 3 (notes.read_fault word)
+FileThen faulty word (Some file) next end =
+    ((length file ≤ file_limit) × next file end)
+    ⊎ (((file_limit < length file) × (end ≡ refused 2 (notes.too_long word file_limit)))
+    ⊎ (IsTrue faulty × (end ≡ refused 3 (notes.read_fault word))))
 
 -- what a request may end as, from files whose reads may fail or not
 abbrev pub RequestEnds : Bool → Files → Option Request → End → Type 0
-RequestEnds faulty files None end = Refused 1 notes.no_such_request end
+RequestEnds faulty files None end = end ≡ refused 1 notes.no_such_request
 RequestEnds faulty files (Some (compile d p)) end = FileThen faulty 2 (get files d) (λ dom. FileThen faulty 3 (get files p) (λ prob. CompileEnds dom prob)) end
 
 -- a request that is carried out with status 0 writes this

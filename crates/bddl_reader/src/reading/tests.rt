@@ -1,6 +1,8 @@
 use crate::{read_domain, read_problem};
+use bddl_lexer::{lex, place_of};
 use bddl_model::{
-    ActionText, AtomList, AtomText, InitAtom, LexFault, Mark, Place, ReadFault, TermText,
+    ActionText, AtomList, AtomText, InitAtom, LexFault, Mark, Place, ReadFault, TermText, Token,
+    TokenKind,
 };
 use std::process::Abort;
 use std::test::Fail;
@@ -13,11 +15,12 @@ fn at(line: u32, column: u32) -> Place {
     Place { line, column }
 }
 
+fn unexpected_at(token: u32, place: Place) -> ReadFault {
+    ReadFault::Unexpected { token, place }
+}
+
 fn unexpected(token: u32, line: u32, column: u32) -> ReadFault {
-    ReadFault::Unexpected {
-        token,
-        place: at(line, column),
-    }
+    unexpected_at(token, at(line, column))
 }
 
 fn ends_early(line: u32, column: u32) -> ReadFault {
@@ -176,18 +179,58 @@ fn names_the_first_fault_of_a_problem(rt: HostRuntime) {
     }
 }
 
+// The fault of a front of a text that is whole. A token that is cut is a lone mark, a number, the name
+// of an action, or a word that the grammar doesn't have.
+fn fault_of_front(rt: &impl Abort, text: &[u8], tokens: &[Token], len: u32) -> ReadFault {
+    assert!(rt; len <= 200 && len as usize <= text.len());
+    let early = ReadFault::EndsEarly {
+        place: place_of(text, len),
+    };
+    let cut = |token: &Token| token.start < len && len < token.end;
+    let Some(number) = tokens.iter().position(cut) else {
+        return early;
+    };
+    assert!(rt; number <= 200);
+    let token = tokens[number];
+    match token.kind {
+        TokenKind::Number => early,
+        TokenKind::Name if text[token.start as usize] == b'a' => early,
+        TokenKind::Name => unexpected_at(number as u32, place_of(text, token.start)),
+        _ if len == token.start + 1 => ReadFault::Lex(LexFault::BadByte { at: token.start }),
+        _ => unexpected_at(number as u32, place_of(text, token.start)),
+    }
+}
+
 #[test]
-fn refuses_what_ends_before_its_last_token(rt: HostRuntime) {
-    let domain = b"#blackactions :action a-1 :parameters (?x,?y) :precondition (open(?x+2,ymin))
-:effect () #whiteactions";
-    for len in 0..domain.len() {
-        let fault = read_domain(rt.alloc(), &domain[..len]).err();
-        assert!(rt; fault.is_some_and(|fault| fault != ReadFault::NoMemory));
+fn each_front_of_a_domain_has_its_own_fault(rt: HostRuntime) -> Result<(), Fail> {
+    let text = b"#blackactions ; one\n:action a-1 :parameters (?x,?y)\r
+:precondition (open(?x+27,ymin)) :effect (black(xmax,?y-1)) #whiteactions";
+    let tokens = lex(rt.alloc(), text)?;
+    for len in 0..text.len() {
+        let fault = fault_of_front(&rt, text, &tokens, len as u32);
+        assert_eq!(rt;
+            read_domain(rt.alloc(), &text[..len]).err(),
+            Some(fault),
+            "front of {len}"
+        );
     }
-    let problem = b"#boardsize 4 4 #init (black(1,1)) #depth 3 #blackgoals (black(?x,?y))
-() #whitegoals";
-    for len in 0..problem.len() {
-        let fault = read_problem(rt.alloc(), &problem[..len]).err();
-        assert!(rt; fault.is_some_and(|fault| fault != ReadFault::NoMemory));
+    assert!(rt; read_domain(rt.alloc(), text).is_ok());
+    Ok(())
+}
+
+#[test]
+fn each_front_of_a_problem_has_its_own_fault(rt: HostRuntime) -> Result<(), Fail> {
+    let text = b"#boardsize 14 04\n#init (black(1,12) open(2,2)) #depth 03
+#blackgoals (black(?x,?y) white(?x+1,ymax))\t() #whitegoals";
+    let tokens = lex(rt.alloc(), text)?;
+    for len in 0..text.len() {
+        let fault = fault_of_front(&rt, text, &tokens, len as u32);
+        assert_eq!(rt;
+            read_problem(rt.alloc(), &text[..len]).err(),
+            Some(fault),
+            "front of {len}"
+        );
     }
+    assert!(rt; read_problem(rt.alloc(), text).is_ok());
+    Ok(())
 }

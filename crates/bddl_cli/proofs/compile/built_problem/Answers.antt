@@ -1,8 +1,22 @@
-use Rattle.bddl_cli.proofs.Built.{problem_is_built, problem_is_refused}
+use Rattle.std.proofs.lemmas.Result.{err_from_is_err_and}
+use Rattle.bddl_cli.proofs.Built.{domain_stops, problem_stops, has_actions, not_empty, is_built}
 use Rattle.bddl_cli.proofs.compile.built_problem.Goals as goal
 
-pub returns-in-Ok : goal.returns-in-Ok
-returns-in-Ok c = problem_is_built c.args.bytes.now c.in-Ok.tree c.if_empty.result c.if-bytes-gt-FILE_LIMIT.false c.in-Ok.ensures.found c.in-Ok.ensures.only c.if_empty.ensures
+pub returns-in_err-domain-clause-stop : goal.returns-in_err-domain-clause-stop
+returns-in_err-domain-clause-stop c =
+    let end = err_from_is_err_and c.from_residual.result c.from_residual.ensures.1 in
+    rw (end.1, end.2) (domain_stops c.args.domain.now c.args.problem.now _ c.in_err-domain.ensures.stop)
 
-pub returns-in-Err : goal.returns-in-Err
-returns-in-Err c = problem_is_refused c.args.bytes.now c.in-Err.fault c.refused_unless_no_memory.result c.in-Err.ensures.only c.refused_unless_no_memory.ensures
+pub returns-in_err-problem-clause-stop : goal.returns-in_err-problem-clause-stop
+returns-in_err-problem-clause-stop c =
+    let end = err_from_is_err_and c.from_residual-in_err-problem.result c.from_residual-in_err-problem.ensures.1 in
+    rw (end.1, end.2) (problem_stops c.args.domain.now c.args.problem.now c.in_ok-domain.domain _ c.in_ok-domain.ensures.found c.in_err-problem.ensures.stop)
+
+pub returns-then-not-has_no_actions-clause-stop : goal.returns-then-not-has_no_actions-clause-stop
+returns-then-not-has_no_actions-clause-stop c = has_actions c.args.domain.now c.args.problem.now c.in_ok-domain.domain c.in_ok-problem.problem _ c.in_ok-domain.ensures.found c.in_ok-problem.ensures.found c.if-not-has_no_actions.true c.has_no_actions.ensures
+
+pub returns-in-Some-clause-found : goal.returns-in-Some-clause-found
+returns-in-Some-clause-found c = is_built c.args.domain.now c.args.problem.now c.in_ok-domain.domain c.in_ok-problem.problem c.in-Some.tree _ c.in_ok-domain.ensures.found c.in_ok-problem.ensures.found c.if-not-has_no_actions.false c.has_no_actions.ensures c.in-Some.ensures
+
+pub returns-clause-stop : goal.returns-clause-stop
+returns-clause-stop c = not_empty c.args.domain.now c.args.problem.now c.in_ok-domain.domain c.in_ok-problem.problem _ c.in_ok-domain.ensures.found c.in_ok-problem.ensures.found c.if-not-has_no_actions.false c.has_no_actions.ensures c.in-None.ensures
