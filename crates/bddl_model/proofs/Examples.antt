@@ -1,6 +1,6 @@
 -- Small games and formulas, as the definitions compute them.
 use Rattle.std.proofs.Common.{◌≡◌, ℕ, true, false, List, [], ◌∷◌, ◌++◌, refl}
-use Rattle.std.specs.Prelude.{pos, replicate, codes}
+use Rattle.std.specs.Prelude.{pos, replicate, codes, map}
 use Rattle.std.specs.Fmt.{digits}
 use Rattle.bddl_model.specs.declared.formula.Lit.{Lit}
 use Rattle.bddl_model.specs.declared.formula.Quant.{Quant}
@@ -17,6 +17,9 @@ use Rattle.bddl_model.specs.Game.{Action, Game}
 use Rattle.bddl_model.specs.Win.{win}
 use Rattle.bddl_model.specs.Bits.{bits}
 use Rattle.bddl_model.specs.Layout.{layout, blocks, prefix_of, bounds}
+use Rattle.bddl_model.specs.FormulaWords.{words_of, last_line, token_of, number, other, quantifier}
+use Rattle.bddl_model.specs.Qdimacs.{form_of}
+use Rattle.bddl_model.specs.Circuit.{Circuit, circuit_clauses}
 
 -- ---- formulas
 
@@ -128,3 +131,28 @@ inputs_of_a_start_board = refl
 inputs_of_one_cell : (layout (without_actions 1 1 [] []) Black 0).inputs ≡ 1
 unfolding bits
 inputs_of_one_cell = refl
+
+-- ---- texts of formulas
+
+-- a comment line, a word that is cut off by a tab, and an empty last line
+words_and_their_lines : words_of (codes "c p cnf\np\tcnf 1\r\n  c\n 2") ≡ record { line = 2; text = codes "p" } ∷ record { line = 2; text = codes "cnf" } ∷ record { line = 2; text = codes "1" } ∷ record { line = 4; text = codes "2" } ∷ []
+words_and_their_lines = refl
+
+line_feeds_make_lines : last_line (codes "") ∷ last_line (codes "p\n") ∷ last_line (codes "\n\np") ∷ [] ≡ 1 ∷ 2 ∷ 3 ∷ []
+line_feeds_make_lines = refl
+
+numbers_and_other_words : map token_of (codes "012" ∷ codes "-7" ∷ codes "-0" ∷ codes "+1" ∷ codes "1234567890" ∷ codes "e" ∷ []) ≡ number false 12 ∷ number true 7 ∷ other ∷ other ∷ other ∷ quantifier Exists ∷ []
+numbers_and_other_words = refl
+
+-- a doubled literal goes, and a clause that is always true goes; a variable that no set binds exists
+the_form_of_a_text : form_of (record { variables = 3; said = 2; sets = record { quant = All; vars = 1 ∷ 3 ∷ [] } ∷ []; clauses = (plus 1 ∷ minus 2 ∷ plus 1 ∷ []) ∷ (minus 3 ∷ plus 3 ∷ []) ∷ [] }) ≡ record { prefix = bound Exists 2 ∷ bound All 1 ∷ bound All 3 ∷ []; clauses = (plus 1 ∷ minus 2 ∷ []) ∷ [] }
+the_form_of_a_text = refl
+
+-- ---- circuits
+
+-- the first of two inputs, and not the second
+abbrev one_gate : Circuit
+one_gate = record { inputs = 2; gates = record { left = record { node = record { 0 = 1 }; negated = false }; right = record { node = record { 0 = 2 }; negated = true } } ∷ [] }
+
+the_clauses_of_a_gate : circuit_clauses one_gate (record { node = record { 0 = 3 }; negated = false }) ≡ (plus 3 ∷ []) ∷ (minus 4 ∷ plus 1 ∷ []) ∷ (minus 4 ∷ minus 2 ∷ []) ∷ (plus 4 ∷ minus 1 ∷ plus 2 ∷ []) ∷ (plus 4 ∷ []) ∷ []
+the_clauses_of_a_gate = refl

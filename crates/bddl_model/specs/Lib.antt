@@ -7,7 +7,10 @@ pub mod Grammar
 pub mod Reading
 pub mod Truth
 pub mod Forms
+pub mod Circuit
 pub mod FormulaText
+pub mod FormulaWords
+pub mod Qdimacs
 pub mod Game
 pub mod Board
 pub mod Fitting

@@ -4,6 +4,7 @@
 //! force a goal. `docs/DEFINITIONS.md` leads through the rest.
 #![tactic(auto)]
 
+mod circuit;
 mod fault;
 mod formula;
 mod game;
@@ -13,6 +14,7 @@ mod steps;
 mod texts;
 mod tokens;
 
+pub use circuit::{NodeId, Wire};
 pub use fault::ReadFault;
 pub use formula::{Block, Bound, Kind, Lit, LitList, Quant, Span, Var};
 pub use game::{Atom, Mark, Move, PlyBits, Side, Term};
