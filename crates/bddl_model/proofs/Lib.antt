@@ -11,3 +11,4 @@ pub mod PlainTexts
 pub mod PlainTokens
 pub mod WrittenForms
 pub mod OneText
+pub mod CircuitForms

@@ -90,7 +90,7 @@ literal_assign v b l a lt = ap (λ x. if l.negated then not x else x) (assign_ot
 pub nodes : ℕ → Assignment → Assignment
 nodes inputs a n = a (variable_of inputs n)
 
-var_below : (inputs k n : ℕ) → inputs < n → k < n → variable_of inputs k < suc n
+pub var_below : (inputs k n : ℕ) → inputs < n → k < n → variable_of inputs k < suc n
 var_below inputs zero n i lt = omega arith
 var_below inputs (suc k) n i lt = ⊎_elim (λ b. rw (lt-ltb k inputs b) (omega arith)) (λ b. rw (le-ltb k inputs b) (omega arith)) (cases_lt k inputs)
 
@@ -138,7 +138,7 @@ module _ (inputs : ℕ) (out : Wire) where
       go true = refl
       go false = refl
   gates_hold (g ∷ gs) n a i o =
-      ap₂ (λ s t. s || t) (one_gate g gs n a true i o.0 o.1 (λ c. gates_hold gs (suc n) c (omega arith) o.2)) (one_gate g gs n a false i o.0 o.1 (λ c. gates_hold gs (suc n) c (omega arith) o.2))
+      ap₂ (λ s t. s || t) (one_gate g gs n a true i (omega (arith, o.0, o.1)) o.1 (λ c. gates_hold gs (suc n) c (omega arith) o.2)) (one_gate g gs n a false i (omega (arith, o.0, o.1)) o.1 (λ c. gates_hold gs (suc n) c (omega arith) o.2))
       ∙ one_point (literal_true a (literal_of inputs g.left) && literal_true a (literal_of inputs g.right)) (λ b. wire_true (gate_values gs (suc n) (assign n b (nodes inputs a))) out)
 
 -- the gates read earlier nodes alone
@@ -153,7 +153,7 @@ run_same (g ∷ gs) n u w out o lt h = run_same gs (suc n) _ _ out o.2 (omega ar
     step k l = at (k == n) refl
       where
         at : (t : Bool) → (k == n) ≡ t → assign n (wire_true u g.left && wire_true u g.right) u k ≡ assign n (wire_true w g.left && wire_true w g.right) w k
-        at true e = rw e (ap₂ (λ s t. s && t) (read g.left o.0) (read g.right o.1))
+        at true e = rw e (ap₂ (λ s t. s && t) (read g.left (omega (arith, o.0, o.1))) (read g.right o.1))
         at false e = rw e (h k (let ne : k ≢ n = λ q. false≢true (sym e ∙ eq-eqb k n q) in omega arith))
 
 truth_clause : (t r : Bool) → ((t || false) && r) ≡ (agree t true && r)

@@ -14,10 +14,10 @@ pub record Circuit : Type 0 where
   pub inputs : ℕ
   pub gates : List Gate
 
--- the operands of each gate are earlier nodes, the first gate's those below n
+-- the operands of each gate are two earlier nodes, the smaller one first; those of the first gate are below n
 abbrev pub Ordered : List Gate → ℕ → Type 0
 Ordered [] n = Unit {0}
-Ordered (g ∷ gs) n = (g.left.node.0 < n) × (g.right.node.0 < n) × Ordered gs (suc n)
+Ordered (g ∷ gs) n = (g.left.node.0 < g.right.node.0) × (g.right.node.0 < n) × Ordered gs (suc n)
 
 abbrev pub nodes_of : Circuit → ℕ
 nodes_of c = suc c.inputs + length c.gates

@@ -1,1 +1,4 @@
 pub mod Starts
+pub mod StartValue
+pub mod StartGoal
+pub mod StartExact
