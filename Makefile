@@ -1,5 +1,5 @@
 # make run: proves and builds the program, and compiles the example. make test: the gate.
-EXAMPLE := examples/empty-board
+EXAMPLE := examples/standing-row
 
 .PHONY: run test clean
 

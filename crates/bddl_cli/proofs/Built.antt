@@ -1,5 +1,5 @@
 -- Why two texts are not built.
-use Rattle.std.proofs.Common.{ℕ, ◌≡◌, Bool, true, false, List, Ok, Err, Option, inl, inr, refl, sym, subst}
+use Rattle.std.proofs.Common.{ℕ, ◌≡◌, ◌<◌, Bool, true, false, List, length, Ok, Err, Option, inl, inr, refl, sym, subst}
 use Rattle.std.specs.Prelude.{◌↔◌, IsTrue}
 use Rattle.bddl_model.specs.declared.tokens.LexFault.TheVariants as lex
 use Rattle.bddl_model.specs.declared.fault.ReadFault.{ReadFault}
@@ -9,9 +9,14 @@ use Rattle.bddl_model.specs.declared.texts.ProblemText.{ProblemText}
 use Rattle.bddl_model.specs.Grammar.{domain, problem}
 use Rattle.bddl_model.specs.Reading.{Reads, ReadFails}
 use Rattle.bddl_model.specs.Truth.{Formula}
-use Rattle.bddl_model.specs.FormulaText.{qtext}
+use Rattle.bddl_model.specs.FormulaText.{greatest_variable, qtext}
 use Rattle.bddl_model.specs.Setup.{setup_of}
-use Rattle.bddl_model.specs.Outcome.{End, no_actions, IsBuilt, IsEmptyProblem, Encodes, CompileEnds, domain_fails, problem_fails, domain_not_built, problem_not_built, compiles, done}
+use Rattle.bddl_model.specs.Start.{IsStartProblem}
+use Rattle.bddl_model.specs.Forms.{IsForm}
+use Rattle.bddl_model.specs.Qdimacs.{HasOneForm}
+use Rattle.bddl_model.proofs.WrittenForms.{text_is_read}
+use Rattle.bddl_model.proofs.OneText.{one_form}
+use Rattle.bddl_model.specs.Outcome.{End, no_actions, IsBuilt, Encodes, CompileEnds, domain_fails, problem_fails, domain_not_built, problem_not_built, compiles, done}
 use Rattle.io_edge.specs.Outside.{with_bytes, WithFront}
 use Rattle.io_edge.specs.declared.sink.SinkEnd.{SinkEnd}
 use Rattle.io_edge.specs.declared.sink.SinkEnd.TheVariants as sink
@@ -51,11 +56,11 @@ pub has_actions : (d p : List ℕ) (dom : DomainText) (prob : ProblemText) (b : 
     → CompileEnds d p (reported refusal.DomainNotBuilt)
 has_actions d p dom prob b r q not h = domain_not_built dom prob r q (λ e. let holds = h.1 e in absurd (cc)) refl
 
-pub not_empty : (d p : List ℕ) (dom : DomainText) (prob : ProblemText) (b : Bool) → Reads domain d dom → Reads problem p prob → b ≡ true → IsTrue b ↔ (dom ≡ no_actions) → (IsEmptyProblem prob → ⊥)
+pub no_start_problem : (d p : List ℕ) (dom : DomainText) (prob : ProblemText) (b : Bool) → Reads domain d dom → Reads problem p prob → b ≡ true → IsTrue b ↔ (dom ≡ no_actions) → (IsStartProblem prob → ⊥)
     → CompileEnds d p (reported refusal.ProblemNotBuilt)
-not_empty d p dom prob b r q holds h none = problem_not_built prob (subst (Reads domain d) (h.0 holds) r) q none refl
+no_start_problem d p dom prob b r q holds h none = problem_not_built prob (subst (Reads domain d) (h.0 holds) r) q none refl
 
-pub is_built : (d p : List ℕ) (dom : DomainText) (prob tree : ProblemText) (b : Bool) → Reads domain d dom → Reads problem p prob → b ≡ true → IsTrue b ↔ (dom ≡ no_actions) → (tree ≡ prob) × IsEmptyProblem tree
+pub is_built : (d p : List ℕ) (dom : DomainText) (prob tree : ProblemText) (b : Bool) → Reads domain d dom → Reads problem p prob → b ≡ true → IsTrue b ↔ (dom ≡ no_actions) → (tree ≡ prob) × IsStartProblem tree
     → IsBuilt d p tree
 is_built d p dom prob tree b r q holds h e = (subst (Reads domain d) (h.0 holds) r, subst (Reads problem p) (sym e.0) q, e.1)
 
@@ -66,9 +71,17 @@ stops_writing ends (stop.Refused r) old h = (refl, h)
 stops_writing ends stop.WriteFault old h = absurd h
 stops_writing ends stop.NoMemory old h = inl refl
 
+written_has_one_form : (form : Formula) → IsForm form → length form.clauses < 1000000000 → HasOneForm (qtext form) form
+written_has_one_form form proper few =
+    let read = text_is_read form proper few in
+    record {
+      read = (greatest_variable form.prefix, length form.clauses, read);
+      only = λ other variables clauses also. (one_form (qtext form) variables clauses (greatest_variable form.prefix) (length form.clauses) other form also read).0;
+    }
+
 module _ (d p : List ℕ) (tree : ProblemText) (form : Formula) (built : IsBuilt d p tree) (encodes : Encodes form (setup_of no_actions tree)) (old new : Option (List ℕ)) where
   ends : CompileEnds d p (done (qtext form))
-  ends = compiles (qtext form) (tree, form, built, encodes, refl) refl
+  ends = compiles (qtext form) (record { tree = tree; form = form; built = built; encodes = encodes; written = refl; read = written_has_one_form form encodes.proper encodes.few }) refl
 
   pub form_is_written : new ≡ with_bytes old (qtext form) → Writes (CompileEnds d p) old new (Ok tt)
   form_is_written w = (qtext form, ends, w)

@@ -4,3 +4,4 @@ pub mod Files
 pub mod Built
 pub mod Requested
 pub mod Answered
+pub mod StartProblems

@@ -1,7 +1,8 @@
 // The request `compile`.
 ghost use Rattle.std.specs.Prelude.{◌≡◌, ◌↔◌, ◌≤◌, ℕ, List, Some, true, false, IfSome, IfOk, IfErr, IsTrue, MatchOption, length};
-ghost use Rattle.bddl_model.specs.Outcome.{RequestEnds, CompileEnds, IsBuilt, IsEmptyProblem, no_actions};
+ghost use Rattle.bddl_model.specs.Outcome.{RequestEnds, CompileEnds, IsBuilt, no_actions};
 ghost use Rattle.bddl_model.specs.Request as spec;
+ghost use Rattle.bddl_model.specs.Start.{IsStartProblem};
 ghost use Rattle.io_edge.specs.Outside.{Counts};
 ghost use Rattle.bddl_cli.specs.Ends.{Writes, StopsAt, StopsAsMayBe, KeepsOut, is_read_fault, is_write_fault};
 
@@ -9,6 +10,7 @@ use crate::form_text::write_form;
 use crate::game_texts::{domain_tree, problem_tree};
 use crate::read::read_named;
 use crate::refusal::{Refusal, Stop};
+use crate::start_problem::is_start_problem;
 use bddl_model::{DomainText, ProblemText};
 use io_edge::{Shelf, Sink};
 use lifted_encode::start_form;
@@ -72,7 +74,7 @@ fn built_problem(alloc: Global, domain: &[u8], problem: &[u8]) -> Result<Problem
     if !has_no_actions(&domain) {
         return Err(Stop::Refused(Refusal::DomainNotBuilt));
     }
-    match if_empty(problem) {
+    match if_start_problem(problem) {
         Some(tree) => Ok(tree),
         None => Err(Stop::Refused(Refusal::ProblemNotBuilt)),
     }
@@ -84,29 +86,12 @@ fn has_no_actions(tree: &DomainText) -> bool
     tree.black.as_slice().is_empty() && tree.white.as_slice().is_empty()
 }
 
-fn if_empty(tree: ProblemText) -> Option<ProblemText>
-    ensures { MatchOption result (IsEmptyProblem tree → ⊥) (λ kept. (kept ≡ tree) × IsEmptyProblem kept) }
+fn if_start_problem(tree: ProblemText) -> Option<ProblemText>
+    ensures { MatchOption result (IsStartProblem tree → ⊥) (λ kept. (kept ≡ tree) × IsStartProblem kept) }
 {
-    if is_empty_problem(&tree) {
+    if is_start_problem(&tree) {
         Some(tree)
     } else {
         None
     }
-}
-
-fn is_empty_problem(tree: &ProblemText) -> bool
-    ensures { IsTrue result ↔ IsEmptyProblem tree.now }
-{
-    is_side(tree.width)
-        && is_side(tree.height)
-        && tree.depth == 0
-        && tree.init.as_slice().is_empty()
-        && tree.black.as_slice().is_empty()
-        && tree.white.as_slice().is_empty()
-}
-
-fn is_side(length: u32) -> bool
-    ensures { IsTrue result ↔ ((1 ≤ length) × (length ≤ 16)) }
-{
-    1 <= length && length <= 16
 }

@@ -11,6 +11,7 @@ mod read;
 mod refusal;
 mod request;
 mod run;
+mod start_problem;
 #[cfg(test)]
 mod tests;
 

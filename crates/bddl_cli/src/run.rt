@@ -34,7 +34,8 @@ pub fn run<S: Shelf, K: Sink, N: Sink>(
         Answers (RequestEnds false files (request_of (map (λ w. w.items) words.now)))
         (K.written out.old) (K.written out.new) (N.written note.old) (N.written note.new) result) }
 
-    // With 0 the whole of out is the text of a form that encodes the problem of the two files.
+    // With 0 the whole of out is the text of a form that encodes the problem of the two files, and
+    // this form alone is read from the text. Its value is that of winning.
     ensures compiled { result ≡ 0 → IfSome (S.held shelf.old) (λ files. (text : List ℕ)
         × Compiled files (request_of (map (λ w. w.items) words.now)) text × (K.written out.new ≡ with_bytes (K.written out.old) text)) }
 

@@ -4,7 +4,8 @@ use Rattle.std.proofs.lemmas.Bool.{cases_Bool, or_cases, eqb-true}
 use Rattle.std.proofs.Math.Bool.{or-true}
 use Rattle.bddl_model.specs.declared.tokens.TokenKind.{TokenKind}
 use Rattle.bddl_model.specs.declared.tokens.TokenFault.TheVariants.{BadByte}
-use Rattle.bddl_model.specs.Tokens.{is_white, token_at, is_gap, begins_token}
+use Rattle.bddl_model.specs.Bytes.{is_white}
+use Rattle.bddl_model.specs.Tokens.{token_at, is_gap, begins_token}
 use Rattle.bddl_lexer.specs.Gaps.{gap_len}
 
 -- behind the longest gap stands the end or a token, and before a token the gap is closed

@@ -1,6 +1,6 @@
 -- How far white space and comments go.
 use Rattle.std.specs.Prelude.{ℕ, suc, ◌==◌, Bool, true, false, not, List, [], ◌∷◌, if◌then◌else◌}
-use Rattle.bddl_model.specs.Tokens.{is_white}
+use Rattle.bddl_model.specs.Bytes.{is_white}
 
 -- how many bytes of white space and comments stand at the front, from inside a comment or not
 abbrev pub gap_len : Bool → List ℕ → ℕ

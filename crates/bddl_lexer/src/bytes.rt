@@ -1,7 +1,8 @@
 //! Kinds of bytes, and how far a run of them goes.
 
 ghost use Rattle.std.specs.Prelude.{◌≡◌, ◌≤◌, ◌<◌, ℕ, List, ◌∷◌, true, false, length};
-ghost use Rattle.bddl_model.specs.Tokens.{is_white, is_letter, is_digit, is_name_byte, run_len};
+ghost use Rattle.bddl_model.specs.Bytes.{is_white, is_letter, is_digit, is_name_byte};
+ghost use Rattle.bddl_model.specs.Tokens.{run_len};
 ghost use Rattle.bddl_lexer.specs.Gaps.{gap_len};
 
 pub(crate) fn is_white(b: u8) -> bool
@@ -10,7 +11,8 @@ pub(crate) fn is_white(b: u8) -> bool
     matches!(b, b' ' | b'\t' | b'\r' | b'\n')
 }
 
-pub(crate) fn is_letter(b: u8) -> bool
+/// An ASCII letter.
+pub fn is_letter(b: u8) -> bool
     ensures { result ≡ is_letter b }
 {
     matches!(b, b'A'..=b'Z' | b'a'..=b'z')
@@ -22,7 +24,8 @@ pub(crate) fn is_digit(b: u8) -> bool
     matches!(b, b'0'..=b'9')
 }
 
-pub(crate) fn is_name_byte(b: u8) -> bool
+/// A letter, a digit, `_` or `-`.
+pub fn is_name_byte(b: u8) -> bool
     ensures { result ≡ is_name_byte b }
 {
     is_letter(b) || is_digit(b) || b == b'_' || b == b'-'

@@ -10,5 +10,6 @@ mod lexer;
 mod places;
 
 pub use bddl_model::{LexFault, Token, TokenKind};
+pub use bytes::{is_letter, is_name_byte};
 pub use lexer::{lex, placing_is_one, tokens_are_one};
 pub use places::place_of;

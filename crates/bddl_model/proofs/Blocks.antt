@@ -1,14 +1,37 @@
 -- A block of one quantifier asks for some values of its variables, or for all.
-use Rattle.std.proofs.Common.{◌≡◌, ℕ, zero, suc, ◌≤◌, ◌<◌, Bool, true, false, List, [], ◌∷◌, ◌++◌, ⊎_elim, refl, sym, ap, ap₂, ◌∙◌, arith, eq-eqb, eqb-true, ne_eqb}
+use Rattle.std.proofs.Common.{◌≡◌, ℕ, zero, suc, ◌+◌, ◌≤◌, ◌<◌, Bool, true, false, List, [], ◌∷◌, ◌++◌, ◌⊎◌, inl, inr, ⊎_elim, refl, sym, ap, ap₂, ◌∙◌, arith, eq-eqb, eqb-true, ne_eqb}
 use Rattle.std.specs.Prelude.{◌==◌}
-use Rattle.std.proofs.lemmas.Bool.{or_from, or_cases, or_left, or_right, and_parts, and_from}
+use Rattle.std.proofs.lemmas.Bool.{or_from, or_cases, or_left, or_right, and_parts, and_from, false≢true, cases_lt}
 use mathlib.Core.Path.{fun_ext}
 use Rattle.bddl_model.specs.declared.formula.Quant.{Quant}
 use Rattle.bddl_model.specs.declared.formula.Quant.TheVariants.{Exists, All}
 use Rattle.bddl_model.specs.declared.formula.Bound.{Bound}
 use Rattle.bddl_model.specs.Truth.{Assignment, assign, join, value}
+use Rattle.bddl_model.specs.Forms.{has_number}
 use Rattle.bddl_model.specs.Layout.{bounds}
+use Rattle.bddl_model.proofs.Truth.{join_same}
+use Rattle.bddl_model.proofs.Counted.{variables-bounds, not_counted, among_counted}
 use Rattle.bddl_model.proofs.Assignments.{binds, SameOutside, same_at_all, outside_assign, assign_other}
+
+-- ---- which variables a block binds
+
+pub not_bound : (q : Quant) (n v w : ℕ) → (w < v) ⊎ (v + n ≤ w) → binds (bounds q v n) w ≡ false
+not_bound q n v w out = ap (λ l. has_number l w) (variables-bounds q v n) ∙ not_counted v n w out
+
+pub stands_outside : (q : Quant) (n v w : ℕ) → binds (bounds q v n) w ≡ false → (w < v) ⊎ (v + n ≤ w)
+stands_outside q n v w h = elim (cases_lt w v) [
+  | inl before ↦ inl before
+  | inr low ↦ elim (cases_lt w (v + n)) [
+    | inl high ↦ absurd (false≢true (sym h ∙ ap (λ l. has_number l w) (variables-bounds q v n) ∙ among_counted v n w low high))
+    | inr behind ↦ inr behind
+  ]
+]
+
+-- what is the same outside of a block is so outside of a wider one
+pub outside_wider : (q p : Quant) (n v m w : ℕ) (a b : Assignment) → v ≤ w → w + m ≤ v + n → SameOutside (bounds p w m) a b → SameOutside (bounds q v n) a b
+outside_wider q p n v m w a b low high s u out = s u (not_bound p m w u (⊎_elim (λ l. inl (omega arith)) (λ g. inr (omega arith)) (stands_outside q n v u out)))
+
+-- ---- some values of a block's variables, or all
 
 pub some_of_block : (n v : ℕ) (m : Assignment → Bool) (a : Assignment) → value (bounds Exists v n) m a ≡ true → (b : Assignment) × SameOutside (bounds Exists v n) a b × (m b ≡ true)
 some_of_block zero v m a h = (a, same_at_all a [], h)
@@ -48,16 +71,14 @@ block_all (suc n) v m a h = and_from _ _ (block_all n (suc v) m (assign v true a
     step : (t : Bool) (b : Assignment) → SameOutside (bounds All (suc v) n) (assign v t a) b → SameOutside (bounds All v (suc n)) a b
     step t b s = outside_assign (record { quant = All; var = record { 0 = v } }) (bounds All (suc v) n) t a b s
 
+-- ---- a test that reads no variable from some number on
+
 -- values that are the same below v
 abbrev pub SameBelow : ℕ → Assignment → Assignment → Type 0
 SameBelow v a b = (w : ℕ) → w < v → a w ≡ b w
 
-binds_block : (q : Quant) (n v w : ℕ) → w < v → binds (bounds q v n) w ≡ false
-binds_block q zero v w lt = refl
-binds_block q (suc n) v w lt = or_from _ _ (ne_eqb v w (λ e. omega arith)) (binds_block q n (suc v) w (omega arith))
-
 pub below_block : (q : Quant) (n v : ℕ) (a b : Assignment) → SameOutside (bounds q v n) a b → SameBelow v a b
-below_block q n v a b s w lt = s w (binds_block q n v w lt)
+below_block q n v a b s w lt = s w (not_bound q n v w (inl lt))
 
 -- a matrix with one VALUE whatever the variables from v on are
 abbrev pub AllFrom : ℕ → List Bound → Type 0
@@ -73,13 +94,7 @@ settled (x ∷ rest) v m t a f h =
     ap₂ (join x.quant)
     (settled rest v m t (assign x.var.0 true a) f.1 (λ b s. h b (put_below v x.var.0 true a b f.0 s)))
     (settled rest v m t (assign x.var.0 false a) f.1 (λ b s. h b (put_below v x.var.0 false a b f.0 s)))
-    ∙ one x.quant t
-  where
-    one : (q : Quant) (t : Bool) → join q t t ≡ t
-    one Exists true = refl
-    one Exists false = refl
-    one All true = refl
-    one All false = refl
+    ∙ join_same x.quant t
 
 pub all_from_block : (q : Quant) (n v w : ℕ) → w ≤ v → AllFrom w (bounds q v n)
 all_from_block q zero v w le = tt

@@ -1,11 +1,13 @@
 -- The clauses of a circuit fit the prefix of all its variables.
-use Rattle.std.proofs.Common.{◌≡◌, ◌≢◌, ℕ, zero, suc, ◌+◌, ◌<◌, ◌≤◌, true, List, [], ◌∷◌, length, ⊎_elim, refl, sym, arith, ne_eqb, lt-ltb, le-ltb}
+use Rattle.std.proofs.Common.{◌≡◌, ◌≢◌, ℕ, zero, suc, ◌+◌, ◌*◌, ◌<◌, ◌≤◌, true, List, [], ◌∷◌, length, ⊎_elim, refl, sym, arith, ne_eqb, lt-ltb, le-ltb}
 use Rattle.std.proofs.lemmas.Bool.{or_from, cases_lt}
 use Rattle.bddl_model.specs.declared.formula.Bound.{Bound}
 use Rattle.bddl_model.specs.declared.formula.Lit.{Lit}
 use Rattle.bddl_model.specs.declared.circuit.Wire.{Wire}
+use Rattle.bddl_model.specs.Truth.{negation}
 use Rattle.bddl_model.specs.Forms.{has_number, AllFitPrefix, FitsPrefix, prefix_variables}
-use Rattle.bddl_model.specs.Circuit.{Gate, Circuit, IsCircuit, IsWire, Ordered, variable_of, literal_of, positive, negation, gates_clauses, output_clause, circuit_clauses}
+use Rattle.bddl_model.specs.declared.circuit.Gate.{Gate}
+use Rattle.bddl_model.specs.Circuit.{Circuit, IsCircuit, IsWire, Ordered, variable_of, literal_of, positive, gates_clauses, output_clause, circuit_clauses}
 use Rattle.bddl_model.proofs.Counted.{counted, among_counted}
 use Rattle.bddl_model.proofs.Tseitin.{var_below}
 
@@ -66,3 +68,11 @@ circuit_fits bs c out e o w = (
   where
     out_below : (k : ℕ) → k < suc c.inputs + length c.gates → variable_of c.inputs k ≤ suc c.inputs + length c.gates
     out_below k lt = let b : variable_of c.inputs k < suc (suc c.inputs + length c.gates) = var_below c.inputs k (suc c.inputs + length c.gates) (omega arith) lt in omega (arith, b)
+
+-- three clauses for each gate, and two more
+gates_clauses_counted : (inputs : ℕ) (gs : List Gate) (v : ℕ) (rest : List (List Lit)) → length (gates_clauses inputs gs v rest) ≡ 3 * length gs + length rest
+gates_clauses_counted inputs [] v rest = omega arith
+gates_clauses_counted inputs (g ∷ gs) v rest = let more = gates_clauses_counted inputs gs (suc v) rest in omega (arith, more)
+
+pub clauses_counted : (c : Circuit) (out : Wire) → length (circuit_clauses c out) ≡ 3 * length c.gates + 2
+clauses_counted c out = let gates = gates_clauses_counted c.inputs c.gates (suc (suc c.inputs)) (output_clause c.inputs out) in omega (arith, gates)

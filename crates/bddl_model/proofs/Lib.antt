@@ -12,3 +12,4 @@ pub mod PlainTokens
 pub mod WrittenForms
 pub mod OneText
 pub mod CircuitForms
+pub mod Growth

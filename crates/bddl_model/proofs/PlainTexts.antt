@@ -3,7 +3,8 @@ use Rattle.std.proofs.Common.{◌≡◌, ℕ, ◌+◌, false, ◌||◌, nat_eq, 
 use Rattle.std.specs.List.{flat_map}
 use Rattle.std.proofs.lemmas.Bool.{or_parts}
 use Rattle.std.proofs.lemmas.List.{append-nil, map-append}
-use Rattle.bddl_model.specs.FormulaWords.{Word, word_on, is_white, is_comment, lines_of, onto_first, before, runs_from, line_words, lines_words, words_of}
+use Rattle.bddl_model.specs.Bytes.{is_white}
+use Rattle.bddl_model.specs.FormulaWords.{Word, word_on, is_comment, lines_of, onto_first, before, runs_from, line_words, lines_words, words_of}
 use Rattle.bddl_model.specs.FormulaText.{joined, line_text}
 
 -- no byte is white
@@ -31,10 +32,6 @@ IsLine (w ∷ ws) = NoComment w × IsWord w × AllWords ws
 no_white : (w : List ℕ) → IsWord w → NoWhite w
 no_white [] h = tt
 no_white (b ∷ bs) h = h
-
-NoWhite-append : (xs ys : List ℕ) → NoWhite xs → NoWhite ys → NoWhite (xs ++ ys)
-NoWhite-append [] ys a b = b
-NoWhite-append (x ∷ xs) ys a b = (a.0, NoWhite-append xs ys a.1 b)
 
 -- ---- runs
 

@@ -9,21 +9,16 @@ use Rattle.std.proofs.lemmas.Fmt.{decimal_by_steps, decimal_nonempty, length-dec
 use Rattle.bddl_model.specs.declared.formula.Quant.{Quant}
 use Rattle.bddl_model.specs.declared.formula.Quant.TheVariants.{Exists, All}
 use Rattle.bddl_model.specs.declared.formula.Lit.{Lit}
-use Rattle.bddl_model.specs.FormulaWords.{Word, is_white, is_digit, words_of, problem, cnf, quantifier, number, token_of, number_of, digits_from, plain, negative}
-use Rattle.bddl_model.specs.Forms.{in_range, AllInRange, literal_variables}
+use Rattle.bddl_model.specs.Bytes.{is_white, is_digit, digits_from, digits_value}
+use Rattle.bddl_model.specs.FormulaWords.{Word, words_of, problem, cnf, quantifier, number, token_of, plain, negative}
+use Rattle.bddl_model.specs.Forms.{in_range, AllPass, AllInRange, literal_variables}
 use Rattle.bddl_model.specs.Qdimacs.{natural, literal, set_tokens, clause_tokens, text_tokens, bound_variables, IsProper, Says}
 use Rattle.bddl_model.specs.FormulaText.{FormulaText, QuantSet, letter_of, literal_text, set_line, clause_line, text_lines, plain_text}
-use Rattle.bddl_model.proofs.NumberLists.{ranges_parts}
+use Rattle.bddl_model.proofs.NumberLists.{AllPass-append, ranges_parts}
 use Rattle.bddl_model.proofs.PlainTexts.{NoWhite, IsWord, AllWords, NoComment, IsLine, AllLines, words_read}
 
--- one digit or more
 abbrev pub AllDigits : List ℕ → Type 0
-AllDigits [] = Unit {0}
-AllDigits (d ∷ ds) = (is_digit d ≡ true) × AllDigits ds
-
-digits_append : (xs ys : List ℕ) → AllDigits xs → AllDigits ys → AllDigits (xs ++ ys)
-digits_append [] ys a b = b
-digits_append (x ∷ xs) ys a b = (a.0, digits_append xs ys a.1 b)
+AllDigits ds = AllPass is_digit ds
 
 digit_is : (d : ℕ) → d < 10 → is_digit (48 + d) ≡ true
 digit_is d h = and_from (nat_le 48 (48 + d)) (nat_le (48 + d) 57) (le-leb 48 (48 + d) (omega arith)) (le-leb (48 + d) 57 (omega arith))
@@ -32,7 +27,7 @@ last_small : (n : ℕ) → n % 10 < 10
 last_small n = omega arith
 
 decimal_digits : (n : ℕ) → n < 2 ^ 64 → AllDigits (decimal n)
-decimal_digits n h = decimal_by_steps (λ n ds. AllDigits ds) (λ n small. (digit_is n small, tt)) (λ n ds big so. digits_append ds ((48 + n % 10) ∷ []) so (digit_is (n % 10) (last_small n), tt)) n h
+decimal_digits n h = decimal_by_steps (λ n ds. AllDigits ds) (λ n small. (digit_is n small, tt)) (λ n ds big so. AllPass-append is_digit ds ((48 + n % 10) ∷ []) so (digit_is (n % 10) (last_small n), tt)) n h
 
 -- reading goes on behind the digits of n with n
 decimal_value : (n : ℕ) → n < 2 ^ 64 → (rest : List ℕ) → digits_from 0 (decimal n ++ rest) ≡ digits_from n rest
@@ -45,7 +40,7 @@ decimal_value n h = decimal_by_steps (λ n ds. (rest : List ℕ) → digits_from
     more n ds big so rest =
         ap (digits_from 0) (append_assoc ds ((48 + n % 10) ∷ []) rest) ∙ so ((48 + n % 10) ∷ rest) ∙ rw (digit_is (n % 10) (last_small n)) (ap (λ (m : ℕ). digits_from m rest) (let q : 10 * (n / 10) + (48 + n % 10 - 48) ≡ n = omega arith in q))
 
-number_is : (n : ℕ) → n < 1000000000 → number_of (decimal n) ≡ Some n
+number_is : (n : ℕ) → n < 1000000000 → digits_value (decimal n) ≡ Some n
 number_is n h =
     let some = decimal_nonempty n (omega arith) in
     let few = length-decimal-le 9 n (omega arith) (omega arith) (omega arith) in
@@ -56,7 +51,7 @@ digit_range : (d : ℕ) → is_digit d ≡ true → (48 ≤ d) × (d ≤ 57)
 digit_range d h = let p = and_parts (nat_le 48 d) (nat_le d 57) h in (leb-true 48 d p.0, leb-true d 57 p.1)
 
 -- a word of digits is a number
-digits_token : (ds : List ℕ) (n : ℕ) → AllDigits ds → 0 < length ds → number_of ds ≡ Some n → token_of ds ≡ number false n
+digits_token : (ds : List ℕ) (n : ℕ) → AllDigits ds → 0 < length ds → digits_value ds ≡ Some n → token_of ds ≡ number false n
 digits_token [] n all some is = absurd (omega arith)
 digits_token (d ∷ ds) n all some is =
     let r = digit_range d all.0 in

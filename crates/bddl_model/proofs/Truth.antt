@@ -5,7 +5,7 @@ use Rattle.bddl_model.specs.declared.formula.Quant.TheVariants.{Exists, All}
 use Rattle.bddl_model.specs.declared.formula.Bound.{Bound}
 use Rattle.bddl_model.specs.Truth.{Assignment, assign, join, value}
 
-join_same : (q : Quant) (b : Bool) → join q b b ≡ b
+pub join_same : (q : Quant) (b : Bool) → join q b b ≡ b
 join_same Exists true = refl
 join_same Exists false = refl
 join_same All true = refl

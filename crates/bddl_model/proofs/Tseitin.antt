@@ -1,17 +1,20 @@
 -- The clauses of a circuit hold for some values of the gate variables exactly where its output does.
-use Rattle.std.proofs.Common.{◌≡◌, ◌≢◌, ℕ, zero, suc, ◌≤◌, ◌<◌, ◌+◌, Bool, true, false, not, ◌&&◌, ◌||◌, List, [], ◌∷◌, ◌++◌, length, if◌then◌else◌, ⊎_elim, refl, sym, ap, ap₂, ◌∙◌, arith, eqb-true, eq-eqb, ne_eqb, lt-ltb, le-ltb}
+use Rattle.std.proofs.Common.{◌≡◌, ◌≢◌, ℕ, zero, suc, ◌≤◌, ◌<◌, ◌+◌, Bool, true, false, not, ◌&&◌, ◌||◌, List, [], ◌∷◌, ◌++◌, length, if◌then◌else◌, inl, ⊎_elim, refl, sym, ap, ap₂, ◌∙◌, arith, eqb-true, eq-eqb, ne_eqb, lt-ltb, le-ltb}
 use Rattle.std.specs.Prelude.{◌==◌}
-use Rattle.std.proofs.lemmas.Bool.{or_parts, or_from, false≢true, cases_lt}
+use Rattle.std.proofs.lemmas.Bool.{or_parts, false≢true, cases_lt}
+use Rattle.std.proofs.Math.Bool.{or-false, and-true}
 use mathlib.Core.Path.{fun_ext}
 use Rattle.bddl_model.specs.declared.formula.Quant.{Quant}
 use Rattle.bddl_model.specs.declared.formula.Quant.TheVariants.{Exists, All}
 use Rattle.bddl_model.specs.declared.formula.Bound.{Bound}
 use Rattle.bddl_model.specs.declared.formula.Lit.{Lit}
 use Rattle.bddl_model.specs.declared.circuit.Wire.{Wire}
-use Rattle.bddl_model.specs.Truth.{Assignment, assign, join, value, literal_true, clauses_true}
+use Rattle.bddl_model.specs.Truth.{Assignment, assign, join, value, literal_true, negation, clauses_true}
 use Rattle.bddl_model.specs.Layout.{bounds}
-use Rattle.bddl_model.specs.Circuit.{Gate, Circuit, IsCircuit, IsWire, Ordered, wire_true, gate_values, holds, variable_of, literal_of, negation, gate_clauses, gates_clauses, output_clause, circuit_clauses}
-use Rattle.bddl_model.proofs.Assignments.{binds, SameOutside, assign_same, assign_other, value-append}
+use Rattle.bddl_model.specs.declared.circuit.Gate.{Gate}
+use Rattle.bddl_model.specs.Circuit.{Circuit, IsCircuit, IsWire, Ordered, wire_true, gate_values, holds, variable_of, literal_of, gate_clauses, gates_clauses, output_clause, circuit_clauses}
+use Rattle.bddl_model.proofs.Assignments.{SameOutside, assign_same, assign_other, value-append}
+use Rattle.bddl_model.proofs.Blocks.{not_bound}
 
 -- both are true, or neither is
 abbrev agree : Bool → Bool → Bool
@@ -52,11 +55,7 @@ pulled_out (x ∷ rest) c m a s =
 
 -- one value of a variable that is defined
 one_point : (w : Bool) (f : Bool → Bool) → ((agree true w && f true) || (agree false w && f false)) ≡ f w
-one_point true f = go (f true)
-  where
-    go : (t : Bool) → (t || false) ≡ t
-    go true = refl
-    go false = refl
+one_point true f = or-false (f true)
 one_point false f = refl
 
 -- the three clauses of a definition
@@ -70,17 +69,13 @@ three false true false r = refl
 three false false true r = refl
 three false false false r = refl
 
-not_bound : (v n w : ℕ) → w < v → binds (bounds Exists v n) w ≡ false
-not_bound v zero w lt = refl
-not_bound v (suc n) w lt = or_from _ _ (ne_eqb v w (λ e. omega arith)) (not_bound (suc v) n w (omega arith))
-
 -- a literal of an earlier variable
 literal_stable : (v n : ℕ) (l : Lit) (a b : Assignment) → l.var.0 < v → SameOutside (bounds Exists v n) a b → literal_true a l ≡ literal_true b l
-literal_stable v n l a b lt s = ap (λ x. if l.negated then not x else x) (s l.var.0 (not_bound v n l.var.0 lt))
+literal_stable v n l a b lt s = ap (λ x. if l.negated then not x else x) (s l.var.0 (not_bound Exists n v l.var.0 (inl lt)))
 
 gate_stable : (v n : ℕ) (x y : Lit) → x.var.0 < v → y.var.0 < v → Stable (bounds Exists (suc v) n) (λ b. agree (b v) (literal_true b x && literal_true b y))
 gate_stable v n x y lx ly a b s =
-    ap₂ agree (s v (not_bound (suc v) n v (omega arith)))
+    ap₂ agree (s v (not_bound Exists n (suc v) v (inl (omega arith))))
     (ap₂ (λ s t. s && t) (literal_stable (suc v) n x a b (omega arith) s) (literal_stable (suc v) n y a b (omega arith) s))
 
 literal_assign : (v : ℕ) (b : Bool) (l : Lit) (a : Assignment) → l.var.0 < v → literal_true (assign v b a) l ≡ literal_true a l
@@ -132,11 +127,7 @@ module _ (inputs : ℕ) (out : Wire) where
 
   gates_hold : (gs : List Gate) (n : ℕ) (a : Assignment) → inputs < n → Ordered gs n → value (bounds Exists (suc n) (length gs)) (clauses_true (gates_clauses inputs gs (suc n) (output_clause inputs out))) a ≡ wire_true (gate_values gs n (nodes inputs a)) out
   unfolding nodes
-  gates_hold [] n a i o = go (literal_true a (literal_of inputs out))
-    where
-      go : (t : Bool) → ((t || false) && true) ≡ t
-      go true = refl
-      go false = refl
+  gates_hold [] n a i o = and-true (literal_true a (literal_of inputs out) || false) ∙ or-false (literal_true a (literal_of inputs out))
   gates_hold (g ∷ gs) n a i o =
       ap₂ (λ s t. s || t) (one_gate g gs n a true i (omega (arith, o.0, o.1)) o.1 (λ c. gates_hold gs (suc n) c (omega arith) o.2)) (one_gate g gs n a false i (omega (arith, o.0, o.1)) o.1 (λ c. gates_hold gs (suc n) c (omega arith) o.2))
       ∙ one_point (literal_true a (literal_of inputs g.left) && literal_true a (literal_of inputs g.right)) (λ b. wire_true (gate_values gs (suc n) (assign n b (nodes inputs a))) out)
@@ -171,7 +162,7 @@ circuit_value c out a o lt =
     branch : (b : Bool) → value (bounds Exists (suc (suc c.inputs)) (length c.gates)) (clauses_true (circuit_clauses c out)) (assign (suc c.inputs) b a) ≡ (agree b true && wire_true (gate_values c.gates (suc c.inputs) (nodes c.inputs (assign (suc c.inputs) b a))) out)
     branch b =
         ap (λ m. value (bounds Exists (suc (suc c.inputs)) (length c.gates)) m (assign (suc c.inputs) b a)) (fun_ext (λ w. truth_clause (w (suc c.inputs)) (clauses_true (gates_clauses c.inputs c.gates (suc (suc c.inputs)) (output_clause c.inputs out)) w)))
-        ∙ pulled_out (bounds Exists (suc (suc c.inputs)) (length c.gates)) (λ w. agree (w (suc c.inputs)) true) (clauses_true (gates_clauses c.inputs c.gates (suc (suc c.inputs)) (output_clause c.inputs out))) (assign (suc c.inputs) b a) (λ u w s. ap (λ t. agree t true) (s (suc c.inputs) (not_bound (suc (suc c.inputs)) (length c.gates) (suc c.inputs) (omega arith))))
+        ∙ pulled_out (bounds Exists (suc (suc c.inputs)) (length c.gates)) (λ w. agree (w (suc c.inputs)) true) (clauses_true (gates_clauses c.inputs c.gates (suc (suc c.inputs)) (output_clause c.inputs out))) (assign (suc c.inputs) b a) (λ u w s. ap (λ t. agree t true) (s (suc c.inputs) (not_bound Exists (length c.gates) (suc (suc c.inputs)) (suc c.inputs) (inl (omega arith)))))
         ∙ ap₂ (λ s t. s && t) (ap (λ t. agree t true) (assign_same (suc c.inputs) b a)) (gates_hold c.inputs out c.gates (suc c.inputs) (assign (suc c.inputs) b a) (omega arith) o)
 
     same : (k : ℕ) → k < suc c.inputs → nodes c.inputs (assign (suc c.inputs) true a) k ≡ assign 0 true a k

@@ -1,18 +1,18 @@
 -- A form is read back from its text.
 use Rattle.std.proofs.Common.{◌≡◌, ℕ, ◌<◌, ◌≤◌, Bool, true, false, ◌&&◌, not, nat_eq, nat_le, max, List, [], ◌∷◌, ◌++◌, length, map, refl, sym, ap, subst, ◌∙◌, inl, inr, arith, append_assoc, if◌then◌else◌}
 use Rattle.std.specs.List.{flat_map, filter, range_with_len}
-use Rattle.std.proofs.lemmas.Bool.{cases_Bool, and_parts, and_from, le-leb, leb-true, or_parts, or_from, or_cases, false_from_ne_true, eqb-true, eq-eqb}
+use Rattle.std.proofs.lemmas.Bool.{cases_Bool, and_parts, and_from, le-leb, leb-true, or_parts, or_from, false_from_ne_true, eqb-true, eq-eqb}
 use Rattle.std.proofs.lemmas.List.{append-nil, map-append}
 use Rattle.bddl_model.specs.declared.formula.Quant.{Quant}
 use Rattle.bddl_model.specs.declared.formula.Quant.TheVariants.{Exists, All}
 use Rattle.bddl_model.specs.declared.formula.Bound.{Bound}
 use Rattle.bddl_model.specs.declared.formula.Lit.{Lit}
-use Rattle.bddl_model.specs.Truth.{Formula}
+use Rattle.bddl_model.specs.Truth.{Formula, negation}
 use Rattle.bddl_model.specs.Forms.{has_number, in_range, AllInRange, AllApart, AllAmong, prefix_variables, literal_variables, AllFitPrefix, IsForm, greatest_variables}
-use Rattle.bddl_model.specs.Qdimacs.{bound_variables, IsProper, same_literal, opposite, has_literal, with_new_literals, has_opposites, kept_clauses, bound_of, set_bounds, free_variables, form_of, Qdimacs}
+use Rattle.bddl_model.specs.Qdimacs.{bound_variables, IsProper, same_literal, has_literal, with_new_literals, has_opposites, kept_clauses, bound_of, set_bounds, free_variables, form_of, Qdimacs}
 use Rattle.bddl_model.specs.FormulaText.{QuantSet, same_quant, onto_sets, sets_of, greatest_variable, written_text, qtext}
-use Rattle.bddl_model.proofs.NumberLists.{has_append}
-use Rattle.bddl_model.proofs.PlainTokens.{plain_says}
+use Rattle.bddl_model.proofs.NumberLists.{AllPass-append, one_passes, all_pass_other, has_append}
+use Rattle.bddl_model.proofs.PlainTokens.{in_range_is, plain_says}
 
 -- ---- the prefix
 
@@ -45,8 +45,7 @@ sets_variables : (bs : List Bound) → bound_variables (sets_of bs) ≡ prefix_v
 sets_variables bs = sym (bounds_variables (sets_of bs)) ∙ ap prefix_variables (sets_bounds bs)
 
 raised : (m n : ℕ) (vs : List ℕ) → m ≤ n → AllInRange m vs → AllInRange n vs
-raised m n [] le h = tt
-raised m n (v ∷ vs) le h = let p = and_parts (nat_le 1 v) (nat_le v m) h.0 in let k = leb-true v m p.1 in (and_from (nat_le 1 v) (nat_le v n) p.0 (le-leb v n (omega arith)), raised m n vs le h.1)
+raised m n vs le h = all_pass_other (in_range m) (in_range n) vs (λ v r. let k = in_range_is m v r in and_from (nat_le 1 v) (nat_le v n) (le-leb 1 v k.0) (le-leb v n (omega (arith, k.1)))) h
 
 pub greatest_range : (most : ℕ) (bs : List Bound) → AllInRange most (prefix_variables bs) → AllInRange (greatest_variable bs) (prefix_variables bs) × (greatest_variable bs ≤ most)
 greatest_range most [] h = (tt, omega arith)
@@ -61,20 +60,9 @@ greatest_range most (b ∷ bs) h =
 
 -- ---- the clauses
 
-among_all : (ws vs : List ℕ) (v : ℕ) → AllAmong ws vs → has_number vs v ≡ true → has_number ws v ≡ true
-among_all ws [] v all h = absurd cc
-among_all ws (w ∷ vs) v all h = elim (or_cases (nat_eq w v) (has_number vs v) h) [
-  | inl here ↦ subst (λ x. has_number ws x ≡ true) (eqb-true w v here) all.0
-  | inr later ↦ among_all ws vs v all.1 later
-]
-
-among-append : (ws xs ys : List ℕ) → AllAmong ws xs → AllAmong ws ys → AllAmong ws (xs ++ ys)
-among-append ws [] ys a b = b
-among-append ws (x ∷ xs) ys a b = (a.0, among-append ws xs ys a.1 b)
-
 all_bound : (bs : List Bound) (cs : List (List Lit)) → AllFitPrefix bs cs → AllAmong (prefix_variables bs) (flat_map literal_variables cs)
 all_bound bs [] h = tt
-all_bound bs (c ∷ cs) h = among-append (prefix_variables bs) (literal_variables c) (flat_map literal_variables cs) h.0.0 (all_bound bs cs h.1)
+all_bound bs (c ∷ cs) h = AllPass-append (has_number (prefix_variables bs)) (literal_variables c) (flat_map literal_variables cs) h.0.0 (all_bound bs cs h.1)
 
 none_pass : (test : ℕ → Bool) (vs : List ℕ) → ((v : ℕ) → test v ≡ false) → filter test vs ≡ []
 none_pass test [] h = refl
@@ -92,7 +80,7 @@ literal_var (x ∷ ls) l m e h =
 
 no_opposites : (ls : List Lit) → AllApart (literal_variables ls) → has_opposites ls ≡ false
 no_opposites [] h = refl
-no_opposites (l ∷ ls) h = or_from (has_literal ls (opposite l)) (has_opposites ls) (literal_var ls (opposite l) l refl h.0) (no_opposites ls h.1)
+no_opposites (l ∷ ls) h = or_from (has_literal ls (negation l)) (has_opposites ls) (literal_var ls (negation l) l refl h.0) (no_opposites ls h.1)
 
 apart_middle : (done ls : List Lit) (l : Lit) → AllApart (literal_variables (done ++ l ∷ ls)) → has_literal done l ≡ false
 apart_middle [] ls l h = refl
@@ -115,16 +103,8 @@ all_kept bs (c ∷ cs) h = rw (no_opposites c h.0.1, same_without [] c h.0.1) (a
 
 -- ---- the whole
 
-range_of : (most : ℕ) (vs : List ℕ) (v : ℕ) → AllInRange most vs → has_number vs v ≡ true → in_range most v ≡ true
-range_of most [] v all h = absurd cc
-range_of most (w ∷ vs) v all h = elim (or_cases (nat_eq w v) (has_number vs v) h) [
-  | inl here ↦ subst (λ x. in_range most x ≡ true) (eqb-true w v here) all.0
-  | inr later ↦ range_of most vs v all.1 later
-]
-
 range_among : (most : ℕ) (ws vs : List ℕ) → AllInRange most ws → AllAmong ws vs → AllInRange most vs
-range_among most ws [] r h = tt
-range_among most ws (v ∷ vs) r h = (range_of most ws v r h.0, range_among most ws vs r h.1)
+range_among most ws vs r h = all_pass_other (has_number ws) (in_range most) vs (λ v among. one_passes (in_range most) ws v r among) h
 
 written_is_proper : (f : Formula) → IsForm f → IsProper (written_text f)
 written_is_proper f form =
@@ -142,7 +122,7 @@ written_form f form = rw (free, sets_bounds f.prefix, all_kept f.prefix f.clause
     never : (v : ℕ) → (has_number (flat_map literal_variables f.clauses) v && not (has_number (bound_variables (sets_of f.prefix)) v)) ≡ false
     never v = elim (cases_Bool (has_number (flat_map literal_variables f.clauses) v)) [
       | inr none ↦ rw none refl
-      | inl some ↦ rw (some, sets_variables f.prefix, among_all (prefix_variables f.prefix) (flat_map literal_variables f.clauses) v (all_bound f.prefix f.clauses form.clauses) some) refl
+      | inl some ↦ rw (some, sets_variables f.prefix, one_passes (has_number (prefix_variables f.prefix)) (flat_map literal_variables f.clauses) v (all_bound f.prefix f.clauses form.clauses) some) refl
     ]
 
     free : free_variables (written_text f) ≡ []

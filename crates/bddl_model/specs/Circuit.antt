@@ -1,15 +1,11 @@
 -- Circuits of and-gates with negations on their wires: what a wire holds, and the clauses that say so.
 use Rattle.std.specs.Prelude.{ℕ, zero, suc, ◌+◌, ◌<◌, Bool, true, false, not, ◌&&◌, List, [], ◌∷◌, length, nat_lt, if◌then◌else◌}
 use Rattle.bddl_model.specs.declared.circuit.Wire.{Wire}
+use Rattle.bddl_model.specs.declared.circuit.Gate.{Gate}
 use Rattle.bddl_model.specs.declared.formula.Lit.{Lit}
-use Rattle.bddl_model.specs.Truth.{Assignment, assign}
+use Rattle.bddl_model.specs.Truth.{Assignment, assign, negation}
 
--- a gate holds where both of its operands hold
-pub record Gate : Type 0 where
-  pub left : Wire
-  pub right : Wire
-
--- its number of inputs, and its gates
+-- its number of inputs, and its gates, each of which holds where both of its operands hold
 pub record Circuit : Type 0 where
   pub inputs : ℕ
   pub gates : List Gate
@@ -58,9 +54,6 @@ literal_of inputs w = record { var = record { 0 = variable_of inputs w.node.0 };
 
 abbrev pub positive : ℕ → Lit
 positive v = record { var = record { 0 = v }; negated = false }
-
-abbrev pub negation : Lit → Lit
-negation l = record { var = l.var; negated = not l.negated }
 
 -- the variable holds where both literals do, and elsewhere not
 abbrev pub gate_clauses : ℕ → Lit → Lit → List (List Lit) → List (List Lit)

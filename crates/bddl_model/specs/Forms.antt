@@ -14,9 +14,13 @@ has_number (w ∷ ws) v = w == v || has_number ws v
 abbrev pub in_range : ℕ → ℕ → Bool
 in_range most v = nat_le 1 v && nat_le v most
 
+-- each number passes
+abbrev pub AllPass : (ℕ → Bool) → List ℕ → Type 0
+AllPass test [] = Unit {0}
+AllPass test (v ∷ vs) = (test v ≡ true) × AllPass test vs
+
 abbrev pub AllInRange : ℕ → List ℕ → Type 0
-AllInRange most [] = Unit {0}
-AllInRange most (v ∷ vs) = (in_range most v ≡ true) × AllInRange most vs
+AllInRange most vs = AllPass (in_range most) vs
 
 -- no number stands twice
 abbrev pub AllApart : List ℕ → Type 0
@@ -24,8 +28,7 @@ AllApart [] = Unit {0}
 AllApart (v ∷ vs) = (has_number vs v ≡ false) × AllApart vs
 
 abbrev pub AllAmong : List ℕ → List ℕ → Type 0
-AllAmong ws [] = Unit {0}
-AllAmong ws (v ∷ vs) = (has_number ws v ≡ true) × AllAmong ws vs
+AllAmong ws vs = AllPass (has_number ws) vs
 
 abbrev pub prefix_variables : List Bound → List ℕ
 prefix_variables bounds = map (λ b. b.var.0) bounds

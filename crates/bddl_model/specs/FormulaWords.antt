@@ -1,15 +1,12 @@
 -- The words of a formula text, each with the number of its line.
-use Rattle.std.specs.Prelude.{ℕ, Bool, true, false, ◌&&◌, ◌||◌, ◌==◌, nat_le, if◌then◌else◌, ◌+◌, ◌-◌, ◌*◌, List, [], ◌∷◌, ◌++◌, length, map, codes, bytes_eq, Option, None, Some}
+use Rattle.std.specs.Prelude.{ℕ, Bool, true, false, ◌||◌, ◌==◌, if◌then◌else◌, ◌+◌, List, [], ◌∷◌, ◌++◌, length, map, codes, bytes_eq, Option, None, Some}
 use Rattle.bddl_model.specs.declared.formula.Quant.{Quant}
 use Rattle.bddl_model.specs.declared.formula.Quant.TheVariants.{Exists, All}
+use Rattle.bddl_model.specs.Bytes.{is_white, digits_value}
 
 pub record Word : Type 0 where
   pub line : ℕ
   pub text : List ℕ
-
--- space, tab, carriage return, line feed
-abbrev pub is_white : ℕ → Bool
-is_white b = b == 32 || b == 9 || b == 13 || b == 10
 
 abbrev pub onto_first : ℕ → List (List ℕ) → List (List ℕ)
 onto_first b [] = (b ∷ []) ∷ []
@@ -63,18 +60,6 @@ pub data FormulaToken : Type 0 where
   number : Bool → ℕ → FormulaToken
   other : FormulaToken
 
-abbrev pub is_digit : ℕ → Bool
-is_digit b = nat_le 48 b && nat_le b 57
-
--- the value of decimal digits behind those of n
-abbrev pub digits_from : ℕ → List ℕ → Option ℕ
-digits_from n [] = Some n
-digits_from n (d ∷ ds) = if is_digit d then digits_from (10 * n + (d - 48)) ds else None
-
--- one to nine digits
-abbrev pub number_of : List ℕ → Option ℕ
-number_of ds = if nat_le 1 (length ds) && nat_le (length ds) 9 then digits_from 0 ds else None
-
 abbrev pub plain : Option ℕ → FormulaToken
 plain None = other
 plain (Some n) = number false n
@@ -86,7 +71,7 @@ negative (Some n) = if n == 0 then other else number true n
 
 abbrev pub number_token : List ℕ → FormulaToken
 number_token [] = other
-number_token (b ∷ bs) = if b == 45 then negative (number_of bs) else plain (number_of (b ∷ bs))
+number_token (b ∷ bs) = if b == 45 then negative (digits_value bs) else plain (digits_value (b ∷ bs))
 
 abbrev pub token_of : List ℕ → FormulaToken
 token_of text =

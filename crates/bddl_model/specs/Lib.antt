@@ -1,5 +1,6 @@
 pub mod StepCount
 pub mod Files
+pub mod Bytes
 pub mod Tokens
 pub mod GrammarWords
 pub mod Meanings
@@ -8,6 +9,7 @@ pub mod Reading
 pub mod Truth
 pub mod Forms
 pub mod Circuit
+pub mod Growth
 pub mod FormulaText
 pub mod FormulaWords
 pub mod Qdimacs
@@ -18,6 +20,7 @@ pub mod Moves
 pub mod Goal
 pub mod Win
 pub mod Setup
+pub mod Start
 pub mod Bits
 pub mod Layout
 pub mod Notes

@@ -1,5 +1,5 @@
 -- What single tokens mean. What no text can hold as a token means nothing.
-use Rattle.std.specs.Prelude.{ℕ, ◌+◌, ◌*◌, ◌-◌, Bool, true, false, ◌&&◌, List, [], ◌∷◌, length, Option, Some, None, codes, if◌then◌else◌, ℤ, pos, neg_ℤ, bytes_eq, nat_le}
+use Rattle.std.specs.Prelude.{ℕ, Bool, true, false, ◌&&◌, List, length, Option, Some, None, codes, if◌then◌else◌, ℤ, pos, neg_ℤ, bytes_eq, nat_le}
 use Rattle.std.specs.List.{list_all}
 use Rattle.bddl_model.specs.declared.tokens.TokenKind.{TokenKind}
 use Rattle.bddl_model.specs.declared.tokens.TokenKind.TheVariants.{Left, Right, Comma, Plus, Minus, VarX, VarY, Hash, Colon, Name, Number}
@@ -7,7 +7,8 @@ use Rattle.bddl_model.specs.declared.game.Mark.{Mark}
 use Rattle.bddl_model.specs.declared.game.Mark.TheVariants as marks
 use Rattle.bddl_model.specs.declared.texts.TermText.{TermText}
 use Rattle.bddl_model.specs.declared.texts.TermText.TheVariants as terms
-use Rattle.bddl_model.specs.Tokens.{Lexeme, is_digit, is_name_byte, begins_with_letter}
+use Rattle.bddl_model.specs.Bytes.{is_name_byte, digits_value}
+use Rattle.bddl_model.specs.Tokens.{Lexeme, begins_with_letter}
 
 abbrev pub same_kind : TokenKind → TokenKind → Bool
 same_kind Left Left = true
@@ -26,15 +27,6 @@ same_kind _ _ = false
 -- this very token
 abbrev pub is : TokenKind → List ℕ → Lexeme → Option (Unit {0})
 is kind text w = if same_kind w.kind kind && bytes_eq w.text text then Some tt else None
-
--- the value of digits behind those of n
-abbrev pub digits_from : ℕ → List ℕ → Option ℕ
-digits_from n [] = Some n
-digits_from n (d ∷ ds) = if is_digit d then digits_from (10 * n + (d - 48)) ds else None
-
--- one to nine digits
-abbrev pub digits_value : List ℕ → Option ℕ
-digits_value ds = if nat_le 1 (length ds) && nat_le (length ds) 9 then digits_from 0 ds else None
 
 -- a letter, and name bytes, at most 32 in all
 abbrev pub is_name : List ℕ → Bool

@@ -13,8 +13,10 @@ use Rattle.bddl_model.specs.Reading.{Reads, ReadFails}
 use Rattle.bddl_model.specs.Truth.{Formula, form_value}
 use Rattle.bddl_model.specs.Forms.{IsForm}
 use Rattle.bddl_model.specs.FormulaText.{qtext}
+use Rattle.bddl_model.specs.Qdimacs.{HasOneForm}
 use Rattle.bddl_model.specs.Layout.{layout, blocks, prefix_of, bounds}
 use Rattle.bddl_model.specs.Setup.{Setup, setup_of}
+use Rattle.bddl_model.specs.Start.{IsStartProblem}
 use Rattle.bddl_model.specs.Win.{win}
 
 -- how a call ends that is not cut short: its status, and what it wrote
@@ -39,35 +41,32 @@ file_limit = 1048576
 abbrev pub no_actions : DomainText
 no_actions = record { black = []; white = [] }
 
--- a board of 1 to 16 by 1 to 16, depth 0, no init atom and no goal line
-pub record IsEmptyProblem (p : ProblemText) : Type 0 where
-  pub width : (1 ≤ p.width) × (p.width ≤ 16)
-  pub height : (1 ≤ p.height) × (p.height ≤ 16)
-  pub init : p.init ≡ []
-  pub depth : p.depth ≡ 0
-  pub black : p.black ≡ []
-  pub white : p.white ≡ []
-
--- The prefix is that of the inputs, with existential variables behind them; the value is that of winning.
+-- The prefix is that of the inputs, with existential variables behind them; the clauses are few enough to be counted in a text; the value is that of winning.
 pub record Encodes (form : Formula) (s : Setup) : Type 0 where
   pub prefix : (gates : ℕ) × (form.prefix ≡ prefix_of (blocks (layout s.game s.first s.depth)) ++ bounds Exists ((layout s.game s.first s.depth).inputs + 1) gates)
   pub proper : IsForm form
+  pub few : length form.clauses < 1000000000
   pub value : form_value form ≡ win s.game s.first s.board s.depth
 
--- the texts are a domain without actions and this problem, which is empty
+-- the texts are a domain without actions and this problem of a start board
 abbrev pub IsBuilt : List ℕ → List ℕ → ProblemText → Type 0
-IsBuilt d p tree = Reads domain d no_actions × Reads problem p tree × IsEmptyProblem tree
+IsBuilt d p tree = Reads domain d no_actions × Reads problem p tree × IsStartProblem tree
 
--- compiling two texts writes the text of a form that encodes their setup
-abbrev pub Compiles : List ℕ → List ℕ → List ℕ → Type 0
-Compiles d p text = (tree : ProblemText) × (form : Formula) × IsBuilt d p tree × Encodes form (setup_of no_actions tree) × (text ≡ qtext form)
+-- compiling two texts writes the text of a form that encodes their setup; it is the one form that is read from the text
+pub record Compiles (d p text : List ℕ) : Type 0 where
+  pub tree : ProblemText
+  pub form : Formula
+  pub built : IsBuilt d p tree
+  pub encodes : Encodes form (setup_of no_actions tree)
+  pub written : text ≡ qtext form
+  pub read : HasOneForm text form
 
--- What compiling two texts may end as: a fault of the domain's text is told, or else of the problem's; then a domain that has actions, or else a problem that is not empty. Else a text is written.
+-- What compiling two texts may end as: a fault of the domain's text is told, or else of the problem's; then a domain that has actions, or else a problem that is not of a start board. Else a text is written.
 pub data CompileEnds (d p : List ℕ) (end : End) : Type 0 where
   domain_fails : (f : ReadFault) → ReadFails domain d f → end ≡ refused 2 (notes.domain_fault d f) → CompileEnds d p end
   problem_fails : (dom : DomainText) (f : ReadFault) → Reads domain d dom → ReadFails problem p f → end ≡ refused 2 (notes.problem_fault p f) → CompileEnds d p end
   domain_not_built : (dom : DomainText) (prob : ProblemText) → Reads domain d dom → Reads problem p prob → (dom ≡ no_actions → ⊥) → end ≡ refused 2 notes.domain_not_built → CompileEnds d p end
-  problem_not_built : (prob : ProblemText) → Reads domain d no_actions → Reads problem p prob → (IsEmptyProblem prob → ⊥) → end ≡ refused 2 notes.problem_not_built → CompileEnds d p end
+  problem_not_built : (prob : ProblemText) → Reads domain d no_actions → Reads problem p prob → (IsStartProblem prob → ⊥) → end ≡ refused 2 notes.problem_not_built → CompileEnds d p end
   compiles : (text : List ℕ) → Compiles d p text → end ≡ done text → CompileEnds d p end
 
 -- ---- every request

@@ -5,7 +5,7 @@ use Rattle.bddl_model.specs.declared.formula.Quant.{Quant}
 use Rattle.bddl_model.specs.declared.formula.Quant.TheVariants.{Exists}
 use Rattle.bddl_model.specs.declared.formula.Bound.{Bound}
 use Rattle.bddl_model.specs.declared.formula.Lit.{Lit}
-use Rattle.bddl_model.specs.Truth.{Formula}
+use Rattle.bddl_model.specs.Truth.{Formula, negation}
 use Rattle.bddl_model.specs.Forms.{has_number, AllInRange, AllApart, greatest_variables, literal_variables}
 use Rattle.bddl_model.specs.FormulaText.{QuantSet, FormulaText}
 use Rattle.bddl_model.specs.FormulaWords.{words_of, FormulaToken, problem, cnf, quantifier, number, token_of}
@@ -48,9 +48,6 @@ pub record Says (bytes : List ℕ) (t : FormulaText) : Type 0 where
 abbrev pub same_literal : Lit → Lit → Bool
 same_literal l m = l.var.0 == m.var.0 && (if l.negated then m.negated else not m.negated)
 
-abbrev pub opposite : Lit → Lit
-opposite l = record l { negated = not l.negated }
-
 abbrev pub has_literal : List Lit → Lit → Bool
 has_literal ls l = list_any (same_literal l) ls
 
@@ -62,10 +59,10 @@ with_new_literals done (l ∷ ls) = with_new_literals (if has_literal done l the
 abbrev pub without_doubles : List Lit → List Lit
 without_doubles ls = with_new_literals [] ls
 
--- some literal's opposite stands behind it
+-- some literal's negation stands behind it
 abbrev pub has_opposites : List Lit → Bool
 has_opposites [] = false
-has_opposites (l ∷ ls) = has_literal ls (opposite l) || has_opposites ls
+has_opposites (l ∷ ls) = has_literal ls (negation l) || has_opposites ls
 
 -- a clause with opposite literals is always true, and is left out
 abbrev pub kept_clauses : List (List Lit) → List (List Lit)
@@ -92,3 +89,8 @@ form_of t = record {
 abbrev pub Qdimacs : List ℕ → ℕ → ℕ → Formula → Type 0
 Qdimacs bytes variables clauses form =
     (t : FormulaText) × Says bytes t × (t.variables ≡ variables) × (t.said ≡ clauses) × (length t.clauses ≡ clauses) × (form_of t ≡ form)
+
+-- one form is read from the text, and it is this one
+pub record HasOneForm (bytes : List ℕ) (form : Formula) : Type 0 where
+  pub read : (variables clauses : ℕ) × Qdimacs bytes variables clauses form
+  pub only : (other : Formula) (variables clauses : ℕ) → Qdimacs bytes variables clauses other → other ≡ form

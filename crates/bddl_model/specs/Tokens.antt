@@ -7,27 +7,14 @@ use Rattle.bddl_model.specs.declared.tokens.TokenFault.TheVariants.{BadByte, Nam
 use Rattle.bddl_model.specs.declared.tokens.LexFault.{LexFault}
 use Rattle.bddl_model.specs.declared.tokens.LexFault.TheVariants as lex
 use Rattle.bddl_model.specs.declared.tokens.Token.{Token}
+use Rattle.bddl_model.specs.Bytes.{is_white, is_letter, is_digit, is_name_byte}
 
 -- a token as it is spelled
 pub record Lexeme : Type 0 where
   pub kind : TokenKind
   pub text : List ℕ
 
--- ---- bytes
-
--- space, tab, carriage return, line feed
-abbrev pub is_white : ℕ → Bool
-is_white b = b == 32 || b == 9 || b == 13 || b == 10
-
-abbrev pub is_letter : ℕ → Bool
-is_letter b = (nat_le 65 b && nat_le b 90) || (nat_le 97 b && nat_le b 122)
-
-abbrev pub is_digit : ℕ → Bool
-is_digit b = nat_le 48 b && nat_le b 57
-
--- a letter, a digit, `_` or `-`
-abbrev pub is_name_byte : ℕ → Bool
-is_name_byte b = is_letter b || is_digit b || b == 95 || b == 45
+-- ---- bytes at the front
 
 -- how many bytes from the front on are such
 abbrev pub run_len : (ℕ → Bool) → List ℕ → ℕ

@@ -32,6 +32,10 @@ value (b ∷ rest) matrix a = join b.quant (value rest matrix (assign b.var.0 tr
 abbrev pub literal_true : Assignment → Lit → Bool
 literal_true a l = if l.negated then not (a l.var.0) else a l.var.0
 
+-- the literal that is true where this one isn't
+abbrev pub negation : Lit → Lit
+negation l = record l { negated = not l.negated }
+
 -- some literal is true
 abbrev pub clause_true : Assignment → List Lit → Bool
 clause_true a c = list_any (literal_true a) c

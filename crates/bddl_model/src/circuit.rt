@@ -8,3 +8,10 @@ pub struct Wire {
     pub node: NodeId,
     pub negated: bool,
 }
+
+/// An and-gate, by its two operands. The one with the smaller node stands first.
+#[derive(Clone, Copy, Debug, PartialEq, Eq, Hash)]
+pub struct Gate {
+    pub left: Wire,
+    pub right: Wire,
+}

@@ -14,7 +14,7 @@ mod steps;
 mod texts;
 mod tokens;
 
-pub use circuit::{NodeId, Wire};
+pub use circuit::{Gate, NodeId, Wire};
 pub use fault::ReadFault;
 pub use formula::{Block, Bound, Kind, Lit, LitList, Quant, Span, Var};
 pub use game::{Atom, Mark, Move, PlyBits, Side, Term};

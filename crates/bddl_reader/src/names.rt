@@ -2,27 +2,17 @@
 
 ghost use Rattle.std.specs.Prelude.{◌≡◌, IfOk};
 ghost use Rattle.std.specs.List.{list_all};
-ghost use Rattle.bddl_model.specs.Tokens.{lexemes, is_letter, is_digit, is_name_byte, begins_with_letter};
+ghost use Rattle.bddl_model.specs.Bytes.{is_name_byte};
+ghost use Rattle.bddl_model.specs.Tokens.{lexemes, begins_with_letter};
 ghost use Rattle.bddl_model.specs.Meanings.{is_name, a_name};
 ghost use Rattle.bddl_reader.specs.ListReaders.{one_at};
 ghost use Rattle.bddl_reader.specs.Gives.{Gives};
 
 use crate::single::text_of;
 use crate::stop::Stop;
+use bddl_lexer::{is_letter, is_name_byte};
 use bddl_model::{NameText, NoMemory, Token, TokenKind};
 use std::alloc::Global;
-
-fn is_letter(byte: u8) -> bool
-    ensures { result ≡ is_letter byte }
-{
-    (b'A' <= byte && byte <= b'Z') || (b'a' <= byte && byte <= b'z')
-}
-
-fn is_name_byte(byte: u8) -> bool
-    ensures { result ≡ is_name_byte byte }
-{
-    is_letter(byte) || (b'0' <= byte && byte <= b'9') || byte == b'_' || byte == b'-'
-}
 
 fn begins_with_letter(text: &[u8]) -> bool
     ensures { result ≡ begins_with_letter text.now }

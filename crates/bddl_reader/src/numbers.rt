@@ -1,8 +1,9 @@
 // Numbers of one to nine digits.
 
 ghost use Rattle.std.specs.Prelude.{◌≡◌, ◌<◌, IfSome, IfOk};
+ghost use Rattle.bddl_model.specs.Bytes.{digits_value};
 ghost use Rattle.bddl_model.specs.Tokens.{spelling, lexemes};
-ghost use Rattle.bddl_model.specs.Meanings.{digits_value, number_in, a_number};
+ghost use Rattle.bddl_model.specs.Meanings.{number_in, a_number};
 ghost use Rattle.bddl_reader.specs.ListReaders.{one_at};
 ghost use Rattle.bddl_reader.specs.Gives.{Gives};
 

@@ -16,7 +16,8 @@ use Rattle.bddl_model.specs.Layout.{bounds, blocks, layout, prefix_of}
 use Rattle.bddl_model.proofs.Bits.{bits_enough}
 use Rattle.bddl_model.proofs.Tseitin.{compiled_value}
 use Rattle.lifted_encode.proofs.StartValue.{line_serves, some_line_serves}
-use Rattle.lifted_encode.proofs.StartGoal.{LinesFixed, serves, goal_serves, serving_goal}
+use Rattle.lifted_encode.specs.Serving.{serves}
+use Rattle.lifted_encode.proofs.StartGoal.{LinesFixed, goal_serves, serving_goal}
 
 -- a game without actions, in which Black alone has lines
 abbrev pub start_game : ℕ → ℕ → List (List Atom) → Game

@@ -9,6 +9,7 @@ use Rattle.bddl_model.specs.Game.{Game}
 use Rattle.bddl_model.specs.Board.{Board, mark_at, same_mark}
 use Rattle.bddl_model.specs.Fitting.{led, on_side, on_board, has_mark}
 use Rattle.bddl_model.specs.Goal.{line_holds}
+use Rattle.lifted_encode.specs.Serving.{at_place, agrees, serves}
 
 -- ---- lines whose terms are numbers on the board
 
@@ -61,20 +62,6 @@ standing_holds g board line w h f s =
     first_passes _ g.height h (first_passes _ g.width w (and_from _ _ (and_from _ _ (and_from _ _ refl (le-leb 1 g.width w)) (and_from _ _ (and_from _ _ refl (le-leb 1 g.height h)) (fixed_on_board g.width g.height 1 1 line f))) s))
 
 -- ---- at a place
-
--- the atom's cell is the place, whose column and row are counted from 0
-abbrev pub at_place : ℕ → ℕ → Atom → Bool
-at_place x y a = (led a.x 1 == x + 1) && (led a.y 1 == y + 1)
-
--- the atom has no say at the place, or its mark is there
-abbrev pub agrees : ℕ → Board → ℕ → ℕ → Atom → Bool
-agrees width board x y a = not (at_place x y a) || same_mark (mark_at width board (x + 1) (y + 1)) a.mark
-
--- there is a line of this number, and its atoms agree
-abbrev pub serves : ℕ → Board → List (List Atom) → ℕ → ℕ → ℕ → Bool
-serves width board [] i x y = false
-serves width board (l ∷ lines) zero x y = list_all (agrees width board x y) l
-serves width board (l ∷ lines) (suc i) x y = serves width board lines i x y
 
 agrees_where_it_stands : (width x y : ℕ) (board : Board) (a : Atom) → has_mark width board 1 1 a ≡ true → agrees width board x y a ≡ true
 agrees_where_it_stands width x y board a h = elim (cases_Bool (at_place x y a)) [

@@ -5,6 +5,12 @@
 #![tactic(auto)]
 
 mod bits;
+mod board;
+mod circuit;
+mod clauses;
+mod inputs;
+mod number;
+mod serving;
 mod start;
 
 pub use start::{StartForm, start_form};

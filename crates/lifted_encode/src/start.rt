@@ -1,12 +1,17 @@
-ghost use Rattle.std.specs.Prelude.{true, false, ◌≡◌, ◌+◌, ◌*◌, ◌^◌, ◌<◌, ◌≤◌, [], ◌∷◌, ◌++◌, IfOk, OnOk};
+ghost use Rattle.std.specs.Prelude.{◌≡◌, ◌+◌, ◌^◌, ◌<◌, ◌≤◌, ◌++◌, IfOk, OnOk};
 ghost use Rattle.bddl_model.specs.Layout.{bounds};
-ghost use Rattle.bddl_model.specs.Outcome.{IsEmptyProblem, Encodes, no_actions};
+ghost use Rattle.bddl_model.specs.Outcome.{Encodes, no_actions};
 ghost use Rattle.bddl_model.specs.Setup.{setup_of};
+ghost use Rattle.bddl_model.specs.Start.{IsStartProblem};
 ghost use Rattle.lifted_encode.specs.Forms.{formula_of};
 ghost use Rattle.bddl_model.specs.declared.formula.Quant.TheVariants.{Exists, All as for_all};
 
-use crate::bits::bits;
-use bddl_model::{Bound, Lit, LitList, NoMemory, ProblemText, Quant, Span, Var};
+use crate::board::start_board;
+use crate::circuit::Dag;
+use crate::clauses::circuit_clauses;
+use crate::inputs::StartInputs;
+use crate::serving::some_line_serves;
+use bddl_model::{Bound, LitList, NoMemory, ProblemText, Quant, Span, Var};
 use std::alloc::Global;
 
 /// A formula of a start position.
@@ -15,45 +20,6 @@ pub struct StartForm {
     /// The variables under their quantifiers, outermost first.
     pub prefix: Vec<Bound>,
     pub clauses: Vec<LitList>,
-}
-
-/// The formula of an empty problem. Its inputs are those of the layout, and behind them stands
-/// the variable that is true. No goal line stands, so the clauses ask for its negation too.
-pub fn start_form(alloc: Global, problem: &ProblemText) -> Result<StartForm, NoMemory>
-    requires { IsEmptyProblem problem.now }
-    ensures { IfOk result (λ form. Encodes (formula_of form) (setup_of no_actions problem.now)) }
-{
-    let anchor = bits(problem.width) + bits(problem.height);
-    let truth = Var(2 * anchor + 2);
-    Ok(StartForm {
-        prefix: start_prefix(alloc, anchor)?,
-        clauses: opposite_clauses(alloc, truth)?,
-    })
-}
-
-// The claim's kind and anchor, the place, and the variable behind them.
-fn start_prefix(alloc: Global, anchor: u32) -> Result<Vec<Bound>, NoMemory>
-    requires { anchor ≤ 64 }
-    ensures { IfOk result (λ prefix. prefix.items
-        ≡ bounds Exists 1 (anchor + 1) ++ bounds for_all (anchor + 2) anchor ++ bounds Exists (2 * anchor + 2) 1) }
-{
-    let mut prefix = Vec::new(alloc);
-    let claim = Span {
-        from: 1,
-        len: anchor + 1,
-    };
-    let place = Span {
-        from: anchor + 2,
-        len: anchor,
-    };
-    let truth = Span {
-        from: 2 * anchor + 2,
-        len: 1,
-    };
-    push_bounds(&mut prefix, Quant::Exists, claim)?;
-    push_bounds(&mut prefix, Quant::All, place)?;
-    push_bounds(&mut prefix, Quant::Exists, truth)?;
-    Ok(prefix)
 }
 
 fn push_bounds(prefix: &mut Vec<Bound>, quant: Quant, span: Span) -> Result<(), NoMemory>
@@ -69,61 +35,116 @@ fn push_bounds(prefix: &mut Vec<Bound>, quant: Quant, span: Span) -> Result<(), 
     Ok(())
 }
 
-// A unit clause of the variable, and one of its negation.
-fn opposite_clauses(alloc: Global, var: Var) -> Result<Vec<LitList>, NoMemory>
-    ensures { IfOk result (λ clauses. clauses.items
-        ≡ (record { var = var; negated = false } ∷ []) ∷ (record { var = var; negated = true } ∷ []) ∷ []) }
+// The claim, the place, and the variables behind them.
+fn start_prefix(alloc: Global, claim: u32, place: u32, gates: u32) -> Result<Vec<Bound>, NoMemory>
+    requires { claim + place + gates < 2 ^ 31 }
+    ensures { IfOk result (λ prefix. prefix.items
+        ≡ bounds Exists 1 claim ++ bounds for_all (1 + claim) place ++ bounds Exists (1 + claim + place) gates) }
 {
-    let mut clauses = Vec::new(alloc);
-    let positive = Lit {
-        var,
-        negated: false,
+    let mut prefix = Vec::new(alloc);
+    let claim = Span {
+        from: 1,
+        len: claim,
     };
-    let negative = Lit { var, negated: true };
-    clauses.push(unit_clause(alloc, positive)?)?;
-    clauses.push(unit_clause(alloc, negative)?)?;
-    Ok(clauses)
+    let place = Span {
+        from: 1 + claim.len,
+        len: place,
+    };
+    let gates = Span {
+        from: place.from + place.len,
+        len: gates,
+    };
+    push_bounds(&mut prefix, Quant::Exists, claim)?;
+    push_bounds(&mut prefix, Quant::All, place)?;
+    push_bounds(&mut prefix, Quant::Exists, gates)?;
+    Ok(prefix)
 }
 
-fn unit_clause(alloc: Global, literal: Lit) -> Result<LitList, NoMemory>
-    ensures { IfOk result (λ clause. clause ≡ literal ∷ []) }
+/// The formula of a start position: some line of Black agrees with the start board at all places.
+/// Its inputs are those of the layout. Behind them stand the variable that is true and those of the
+/// gates.
+pub fn start_form(alloc: Global, problem: &ProblemText) -> Result<StartForm, NoMemory>
+    requires { IsStartProblem problem.now }
+    ensures { IfOk result (λ form. Encodes (formula_of form) (setup_of no_actions problem.now)) }
 {
-    let mut clause = LitList::new(alloc);
-    clause.push(literal)?;
-    Ok(clause)
+    let lines = problem.black.as_slice();
+    let inputs = StartInputs::of(problem.width, problem.height, lines.len() as u32);
+    let board = start_board(
+        alloc,
+        problem.width,
+        problem.height,
+        problem.init.as_slice(),
+    )?;
+    let place = inputs.column.len + inputs.row.len;
+    let claim = 1 + inputs.line.len + place;
+    let mut dag = Dag::new(alloc, claim + place);
+    let out = some_line_serves(&mut dag, &board, inputs, lines)?;
+    let gates = dag.gates().len() as u32;
+    Ok(StartForm {
+        prefix: start_prefix(alloc, claim, place, 1 + gates)?,
+        clauses: circuit_clauses(alloc, &dag, out)?,
+    })
 }
 
 #[cfg(test)]
 mod tests {
     use super::*;
-    use bddl_model::{InitList, LineList};
+    use crate::bits::bits;
+    use bddl_model::{AtomList, AtomText, InitAtom, InitList, LineList, Lit, Mark, TermText};
     use std::test::Fail;
+
+    // Two cells, the first one marked so, and a line that asks for a black stone there.
+    fn two_cells(alloc: Global, mark: Mark) -> Result<ProblemText, NoMemory>
+        ensures { IfOk result IsStartProblem }
+    {
+        let mut init = InitList::new(alloc);
+        init.push(InitAtom { mark, x: 1, y: 1 })?;
+        let mut line = AtomList::new(alloc);
+        line.push(AtomText {
+            mark: Mark::Black,
+            x: TermText::Number(1),
+            y: TermText::Number(1),
+        })?;
+        let mut black = LineList::new(alloc);
+        black.push(line)?;
+        Ok(ProblemText {
+            width: 2,
+            height: 1,
+            init,
+            depth: 0,
+            black,
+            white: LineList::new(alloc),
+        })
+    }
+
+    fn positive(variable: u32) -> Lit {
+        Lit {
+            var: Var(variable),
+            negated: false,
+        }
+    }
 
     #[test]
     fn two_cells_have_one_bit_of_anchor_and_of_place(rt: HostRuntime) -> Result<(), Fail> {
-        let alloc = rt.alloc();
-        let problem = ProblemText {
-            width: 2,
-            height: 1,
-            init: InitList::new(alloc),
-            depth: 0,
-            black: LineList::new(alloc),
-            white: LineList::new(alloc),
-        };
-        let form = start_form(alloc, &problem)?;
+        let form = start_form(rt.alloc(), &two_cells(rt.alloc(), Mark::Free)?)?;
         let quants = [Quant::Exists, Quant::Exists, Quant::All, Quant::Exists];
         assert_eq!(rt; form.prefix.len(), 4);
         for (i, bound) in form.prefix.iter().enumerate() {
             assert_eq!(rt; bound.var, Var(i as u32 + 1));
             assert_eq!(rt; Some(&bound.quant), quants.get(i));
         }
-        assert_eq!(rt; form.clauses.len(), 2);
-        for (clause, negated) in form.clauses.iter().zip([false, true]) {
-            let literal = Lit {
-                var: Var(4),
-                negated,
-            };
-            assert_eq!(rt; clause.as_slice(), [literal].as_slice());
+        Ok(())
+    }
+
+    // At the cell of a stone that is missing the line fails: the place has to be the other cell.
+    #[test]
+    fn the_output_is_true_or_the_place(rt: HostRuntime) -> Result<(), Fail> {
+        for (mark, output) in [(Mark::Black, 4), (Mark::White, 3), (Mark::Free, 3)] {
+            let form = start_form(rt.alloc(), &two_cells(rt.alloc(), mark)?)?;
+            assert_eq!(rt; form.clauses.len(), 2);
+            for (clause, variable) in form.clauses.iter().zip([4, output]) {
+                assert_eq!(rt; clause.as_slice(), [positive(variable)].as_slice());
+            }
         }
         Ok(())
     }

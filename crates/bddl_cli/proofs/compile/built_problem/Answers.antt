@@ -1,5 +1,5 @@
 use Rattle.std.proofs.lemmas.Result.{err_from_is_err_and}
-use Rattle.bddl_cli.proofs.Built.{domain_stops, problem_stops, has_actions, not_empty, is_built}
+use Rattle.bddl_cli.proofs.Built.{domain_stops, problem_stops, has_actions, no_start_problem, is_built}
 use Rattle.bddl_cli.proofs.compile.built_problem.Goals as goal
 
 pub returns-in_err-domain-clause-stop : goal.returns-in_err-domain-clause-stop
@@ -19,4 +19,4 @@ pub returns-in-Some-clause-found : goal.returns-in-Some-clause-found
 returns-in-Some-clause-found c = is_built c.args.domain.now c.args.problem.now c.in_ok-domain.domain c.in_ok-problem.problem c.in-Some.tree _ c.in_ok-domain.ensures.found c.in_ok-problem.ensures.found c.if-not-has_no_actions.false c.has_no_actions.ensures c.in-Some.ensures
 
 pub returns-clause-stop : goal.returns-clause-stop
-returns-clause-stop c = not_empty c.args.domain.now c.args.problem.now c.in_ok-domain.domain c.in_ok-problem.problem _ c.in_ok-domain.ensures.found c.in_ok-problem.ensures.found c.if-not-has_no_actions.false c.has_no_actions.ensures c.in-None.ensures
+returns-clause-stop c = no_start_problem c.args.domain.now c.args.problem.now c.in_ok-domain.domain c.in_ok-problem.problem _ c.in_ok-domain.ensures.found c.in_ok-problem.ensures.found c.if-not-has_no_actions.false c.has_no_actions.ensures c.in-None.ensures

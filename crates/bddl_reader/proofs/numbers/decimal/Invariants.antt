@@ -1,5 +1,5 @@
 use Rattle.std.proofs.Common.{◌≡◌, ◌<◌, ◌^◌, drop}
-use Rattle.bddl_model.specs.Meanings.{digits_from}
+use Rattle.bddl_model.specs.Bytes.{digits_from}
 use Rattle.bddl_reader.proofs.numbers.decimal.Given as goal
 
 abbrev pub invariant-loop-digit : goal.invariant-loop-digit

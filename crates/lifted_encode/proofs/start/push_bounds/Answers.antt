@@ -1,5 +1,5 @@
 use Rattle.std.proofs.Common.{◌+◌, arith}
-use Rattle.lifted_encode.proofs.Starts.{bounds_begin, bounds_step, bounds_end}
+use Rattle.lifted_encode.proofs.BoundLoop.{bounds_begin, bounds_step, bounds_end}
 use Rattle.lifted_encode.proofs.start.push_bounds.Goals as goal
 
 pub loop-number-init : goal.loop-number-init

@@ -1,11 +1,14 @@
-use Rattle.std.proofs.Common.{◌+◌, ◌≤◌, arith}
-use Rattle.lifted_encode.proofs.Starts.{start_is_encoded}
+use Rattle.std.proofs.Common.{◌∙◌}
+use Rattle.lifted_encode.proofs.Encoded.{start_is_encoded}
 use Rattle.lifted_encode.proofs.start.start_form.Goals as goal
 
 pub returns : goal.returns
 returns c =
-    let small : c.bits.result + c.bits-2.result ≤ 64 = omega (arith, c.bits.ensures.bound, c.bits-2.ensures.bound) in
-    start_is_encoded c.args.problem.now _ c.requires
-    (rw (c.bits.ensures.value, c.bits-2.ensures.value) at small)
-    (rw (c.bits.ensures.value, c.bits-2.ensures.value) at c.in_ok-start_prefix.ensures)
-    (rw (c.bits.ensures.value, c.bits-2.ensures.value) at c.in_ok-opposite_clauses.ensures)
+    start_is_encoded c.args.problem.now (record { prefix = c.in_ok-start_prefix.field-0.items; clauses = c.in_ok-circuit_clauses.field-0.items }) c.some_line_serves.new.dag c.in_ok-out.out c.requires
+    (rw (c.gates.ensures.gates, c.of-inputs.ensures.line, c.of-inputs.ensures.column, c.of-inputs.ensures.row, c.as_slice-lines.ensures) at c.in_ok-start_prefix.ensures)
+    c.in_ok-circuit_clauses.ensures
+    (c.in_ok-out.ensures.grows.inputs ∙ rw (c.of-inputs.ensures.line, c.of-inputs.ensures.column, c.of-inputs.ensures.row, c.as_slice-lines.ensures) at c.new-dag.ensures.inputs)
+    c.gates.ensures.nodes
+    c.gates.ensures.order
+    c.in_ok-out.ensures.wire
+    (λ a. rw (c.in_ok-board.ensures.width, c.in_ok-board.ensures.height, c.in_ok-board.ensures.marks, c.of-inputs.ensures.line, c.of-inputs.ensures.column, c.of-inputs.ensures.row, c.as_slice-lines.ensures, c.as_slice.ensures) at (c.in_ok-out.ensures.value a))

@@ -1,0 +1,10 @@
+use Rattle.std.proofs.Common.{arith}
+use Rattle.bddl_model.proofs.Bits.{bits_most}
+use Rattle.lifted_encode.proofs.inputs.StartInputs.of.Goals as goal
+
+pub returns-clause-small : goal.returns-clause-small
+returns-clause-small c = (
+  bits_most c.args.lines 8 c.requires.few,
+  bits_most c.args.width 4 c.requires.sides.0,
+  bits_most c.args.height 4 c.requires.sides.1,
+)

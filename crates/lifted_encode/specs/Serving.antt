@@ -1,0 +1,38 @@
+-- Which lines of Black serve at a place, on a board.
+use Rattle.std.specs.Prelude.{ℕ, zero, suc, ◌≡◌, ◌+◌, ◌*◌, ◌≤◌, Bool, false, not, ◌&&◌, ◌||◌, ◌==◌, List, [], ◌∷◌, length}
+use Rattle.std.specs.List.{list_all}
+use Rattle.bddl_model.specs.declared.formula.Span.{Span}
+use Rattle.bddl_model.specs.declared.game.Atom.{Atom}
+use Rattle.bddl_model.specs.Truth.{Assignment}
+use Rattle.bddl_model.specs.Bits.{number_at}
+use Rattle.bddl_model.specs.Board.{Board, mark_at, same_mark}
+use Rattle.bddl_model.specs.Fitting.{led}
+use Rattle.lifted_encode.specs.declared.board.Board as declared
+
+-- the atom's cell is the place, whose column and row are counted from 0
+abbrev pub at_place : ℕ → ℕ → Atom → Bool
+at_place x y a = (led a.x 1 == x + 1) && (led a.y 1 == y + 1)
+
+-- the atom has no say at the place, or its mark is there
+abbrev pub agrees : ℕ → Board → ℕ → ℕ → Atom → Bool
+agrees width board x y a = not (at_place x y a) || same_mark (mark_at width board (x + 1) (y + 1)) a.mark
+
+-- there is a line of this number, and its atoms agree
+abbrev pub serves : ℕ → Board → List (List Atom) → ℕ → ℕ → ℕ → Bool
+serves width board [] i x y = false
+serves width board (l ∷ lines) zero x y = list_all (agrees width board x y) l
+serves width board (l ∷ lines) (suc i) x y = serves width board lines i x y
+
+-- the number that these inputs hold
+abbrev pub number_in : Span → Assignment → ℕ
+number_in s a = number_at a s.from s.len
+
+-- at most so many bits, among this many inputs
+abbrev pub IsWord : ℕ → ℕ → Span → Type 0
+IsWord most inputs s = (1 ≤ s.from) × (s.from + s.len ≤ inputs + 1) × (s.len ≤ most)
+
+-- a board of at most 16 by 16, with a mark for each cell
+pub record IsBoard (board : declared.Board) : Type 0 where
+  pub width : (1 ≤ board.width) × (board.width ≤ 16)
+  pub height : (1 ≤ board.height) × (board.height ≤ 16)
+  pub size : length board.marks.items ≡ board.height * board.width

@@ -1,0 +1,110 @@
+// The clauses of a circuit.
+ghost use Rattle.std.specs.Prelude.{◌≡◌, ◌≤◌, [], ◌∷◌, ◌++◌, IfOk, OnOk};
+ghost use Rattle.bddl_model.specs.Circuit as spec;
+ghost use Rattle.bddl_model.specs.Truth.{negation};
+
+use crate::circuit::Dag;
+use bddl_model::{Gate, Lit, LitList, NoMemory, NodeId, Var, Wire};
+use std::alloc::Global;
+
+/// The clauses that say that a wire of a circuit holds. An input's variable has its number; behind
+/// the inputs stands the variable that is true, and behind it those of the gates.
+pub fn circuit_clauses(alloc: Global, dag: &Dag, out: Wire) -> Result<Vec<LitList>, NoMemory>
+    requires { spec.IsWire dag.now out }
+    ensures { IfOk result (λ clauses. clauses.items ≡ spec.circuit_clauses dag.now out) }
+{
+    let inputs = dag.inputs();
+    let gates = dag.gates();
+    let mut clauses = Vec::new(alloc);
+    push_clause(alloc, &mut clauses, &[positive(inputs + 1)])?;
+    let mut variable = inputs + 2;
+    for gate in gates {
+        push_gate(alloc, &mut clauses, inputs, variable, gate)?;
+        variable += 1;
+    }
+    push_clause(alloc, &mut clauses, &[literal_of(inputs, out)])?;
+    Ok(clauses)
+}
+
+// The variable holds exactly where both operands do.
+fn push_gate(
+    alloc: Global,
+    clauses: &mut Vec<LitList>,
+    inputs: u32,
+    variable: u32,
+    gate: &Gate,
+) -> Result<(), NoMemory>
+    requires inputs { inputs ≤ 16777215 }
+    requires left { gate.now.left.node.0 ≤ 16777215 }
+    requires right { gate.now.right.node.0 ≤ 16777215 }
+    ensures { OnOk result (clauses.new.items ≡ clauses.old.items ++ spec.gate_clauses variable (spec.literal_of inputs gate.now.left) (spec.literal_of inputs gate.now.right) []) }
+{
+    let own = positive(variable);
+    let left = literal_of(inputs, gate.left);
+    let right = literal_of(inputs, gate.right);
+    push_clause(alloc, clauses, &[negation(own), left])?;
+    push_clause(alloc, clauses, &[negation(own), right])?;
+    push_clause(alloc, clauses, &[own, negation(left), negation(right)])
+}
+
+// One clause more, of these literals.
+fn push_clause(alloc: Global, clauses: &mut Vec<LitList>, literals: &[Lit]) -> Result<(), NoMemory>
+    ensures { OnOk result (clauses.new.items ≡ clauses.old.items ++ literals.now ∷ []) }
+{
+    clauses.push(clause_of(alloc, literals)?)?;
+    Ok(())
+}
+
+fn clause_of(alloc: Global, literals: &[Lit]) -> Result<LitList, NoMemory>
+    ensures { IfOk result (λ clause. clause ≡ literals.now) }
+{
+    let mut clause = LitList::new(alloc);
+    for literal in literals {
+        clause.push(*literal)?;
+    }
+    Ok(clause)
+}
+
+fn positive(variable: u32) -> Lit
+    ensures { result ≡ spec.positive variable }
+{
+    Lit {
+        var: Var(variable),
+        negated: false,
+    }
+}
+
+fn negation(literal: Lit) -> Lit
+    ensures { result ≡ negation literal }
+{
+    Lit {
+        var: literal.var,
+        negated: !literal.negated,
+    }
+}
+
+fn literal_of(inputs: u32, wire: Wire) -> Lit
+    requires inputs { inputs ≤ 16777215 }
+    requires node { wire.node.0 ≤ 16777215 }
+    ensures { result ≡ spec.literal_of inputs wire }
+{
+    Lit {
+        var: Var(variable_of(inputs, wire.node)),
+        negated: wire.negated,
+    }
+}
+
+// An input has its own number. Node 0 stands behind the inputs, and the gates behind it.
+fn variable_of(inputs: u32, node: NodeId) -> u32
+    requires inputs { inputs ≤ 16777215 }
+    requires node { node.0 ≤ 16777215 }
+    ensures { result ≡ spec.variable_of inputs node.0 }
+{
+    if node.0 == 0 {
+        return inputs + 1;
+    }
+    if node.0 <= inputs {
+        return node.0;
+    }
+    node.0 + 1
+}
