@@ -1,12 +1,11 @@
 -- The form of a start problem encodes its setup.
-use Rattle.std.proofs.Common.{◌≡◌, ℕ, suc, ◌+◌, ◌*◌, ◌<◌, ◌≤◌, true, List, [], ◌∷◌, ◌++◌, length, map, refl, sym, ap, ap₂, ◌∙◌, subst, append_assoc, arith}
+use Rattle.std.proofs.Common.{◌≡◌, ℕ, suc, ◌+◌, ◌≤◌, true, List, [], ◌∷◌, ◌++◌, length, map, refl, sym, ap, ap₂, ◌∙◌, subst, arith}
 use Rattle.std.specs.List.{list_all}
 use Rattle.std.proofs.lemmas.Bool.{and_parts}
 use Rattle.std.proofs.lemmas.List.{length-map}
 use Rattle.bddl_model.specs.declared.circuit.Wire.{Wire}
 use Rattle.bddl_model.specs.declared.formula.Quant.TheVariants.{Exists, All}
 use Rattle.bddl_model.specs.declared.formula.Bound.{Bound}
-use Rattle.bddl_model.specs.declared.formula.Span.{Span}
 use Rattle.bddl_model.specs.declared.game.Side.TheVariants.{Black}
 use Rattle.bddl_model.specs.declared.game.Atom.{Atom}
 use Rattle.bddl_model.specs.declared.game.Term.TheVariants.{Abs}
@@ -20,9 +19,9 @@ use Rattle.bddl_model.specs.Bits.{bits}
 use Rattle.bddl_model.specs.Board.{Board, open_board}
 use Rattle.bddl_model.specs.Circuit.{Circuit, IsCircuit, IsWire, nodes_of, holds, circuit_clauses}
 use Rattle.bddl_model.specs.Fitting.{on_side}
-use Rattle.bddl_model.specs.Layout.{bounds, blocks, layout, prefix_of, span}
+use Rattle.bddl_model.specs.Layout.{bounds, layout, span}
 use Rattle.bddl_model.specs.Outcome.{Encodes, no_actions}
-use Rattle.bddl_model.specs.Setup.{setup_of, marked, term_of, atom_of, line_of}
+use Rattle.bddl_model.specs.Setup.{setup_of, marked, term_of, line_of}
 use Rattle.bddl_model.specs.Start.{IsStartProblem, number_on_side, names_cell, line_fits}
 use Rattle.bddl_model.proofs.CircuitForms.{circuit_fits, clauses_counted}
 use Rattle.bddl_model.proofs.Counted.{counted, counted-append, counted-in_range, counted-apart, variables-bounds, variables-append}

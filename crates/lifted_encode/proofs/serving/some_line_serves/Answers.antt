@@ -1,6 +1,5 @@
 use Rattle.std.proofs.Common.{rules, ◌+◌, ◌*◌, sym, ap, ◌∙◌, arith}
 use Rattle.bddl_model.specs.Setup.{line_of}
-use Rattle.lifted_encode.specs.Serving.{number_in}
 use Rattle.bddl_model.proofs.Growth.{grows_more}
 use Rattle.lifted_encode.proofs.Lines.{no_line_more}
 use Rattle.lifted_encode.proofs.serving.some_line_serves.Goals as goal

@@ -1,4 +1,3 @@
-use Rattle.std.proofs.Common.{arith}
 use Rattle.bddl_model.proofs.Bits.{bits_most}
 use Rattle.lifted_encode.proofs.inputs.StartInputs.of.Goals as goal
 
