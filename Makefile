@@ -1,10 +1,16 @@
-# make run: proves and builds the program, and compiles the example. make test: the gate.
+# make run: proves and builds the program, shows that the examples are canonical, and compiles one. make test: the gate.
 EXAMPLE := examples/standing-row
 
-.PHONY: run test clean
+.PHONY: run canonical test clean
 
-run: bddl
+run: canonical
 	./bddl compile $(EXAMPLE)/domain.bddl $(EXAMPLE)/problem.bddl
+
+canonical: bddl
+	for game in examples/*; do \
+	  ./bddl fmt-domain $$game/domain.bddl | cmp - $$game/domain.bddl || exit 1; \
+	  ./bddl fmt-problem $$game/problem.bddl | cmp - $$game/problem.bddl || exit 1; \
+	done
 
 bddl: crates.txt $(wildcard crates/*/src/*.rt crates/*/src/*/*.rt crates/*/specs/*.antt)
 	cd crates/bddl_cli && rt run -- compile ../../$(EXAMPLE)/domain.bddl ../../$(EXAMPLE)/problem.bddl

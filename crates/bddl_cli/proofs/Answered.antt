@@ -2,8 +2,13 @@
 use Rattle.std.proofs.Common.{ℕ, false, ◌≡◌, ◌≢◌, List, [], Bool, true, Option, None, Some, Ok, ◌⊎◌, inl, inr, refl, sym, ap, subst, ◌∙◌}
 use Rattle.std.specs.Prelude.{IfSome, ◌==◌}
 use Rattle.bddl_model.specs.Files.{Files}
-use Rattle.bddl_model.specs.Request.{Request, compile}
-use Rattle.bddl_model.specs.Outcome.{End, refused, done, RequestEnds, CompileEnds, domain_fails, problem_fails, domain_not_built, problem_not_built, compiles, FileThen, Compiled, Compiles}
+use Rattle.bddl_model.specs.declared.fault.ReadFault.{ReadFault}
+use Rattle.bddl_model.specs.Tokens.{Lexeme}
+use Rattle.bddl_model.specs.Grammar.{domain, problem}
+use Rattle.bddl_model.specs.Canonical.{domain_text, problem_text}
+use Rattle.bddl_model.specs.Notes.{domain_fault, problem_fault}
+use Rattle.bddl_model.specs.Request.{Request, compile, fmt_domain, fmt_problem}
+use Rattle.bddl_model.specs.Outcome.{End, refused, done, RequestEnds, CompileEnds, domain_fails, problem_fails, domain_not_built, problem_not_built, compiles, FormatEnds, fails, prints, FormatDomainEnds, FormatProblemEnds, Formats, FileThen, IsResult, Compiles}
 use Rattle.std.specs.FinMap.{get}
 use Rattle.io_edge.specs.Outside.{with_bytes, WithFront}
 use Rattle.io_edge.proofs.Fronts.{with_bytes_none}
@@ -52,41 +57,40 @@ cut_of_files faulty (Some files) request out_old out_new note status short h = c
 
 -- ---- a request that was carried out
 
-abbrev Carried : Files → Option Request → Option (List ℕ) → Option (List ℕ) → Type 0
-Carried files request old new = (text : List ℕ) × Compiled files request text × (new ≡ with_bytes old text)
-
 not_refused : (text : List ℕ) (status : ℕ) (note : List ℕ) → (status == 0) ≡ false → done text ≡ refused status note → ⊥
 not_refused text status note other e =
     let zero : 0 ≡ status = ap (λ (x : End). x.status) e in
     let same : (status == 0) ≡ true = subst (λ n. (n == 0) ≡ true) zero refl in
     cc
 
-compiled_texts : (dom prob text : List ℕ) → CompileEnds dom prob (done text) → Compiles dom prob text
-compiled_texts dom prob text (domain_fails f h e) = absurd (not_refused text 2 _ refl e)
-compiled_texts dom prob text (problem_fails d f r h e) = absurd (not_refused text 2 _ refl e)
-compiled_texts dom prob text (domain_not_built d p r q h e) = absurd (not_refused text 2 _ refl e)
-compiled_texts dom prob text (problem_not_built p r q h e) = absurd (not_refused text 2 _ refl e)
-compiled_texts dom prob text (compiles other c e) = subst (Compiles dom prob) (sym (ap (λ (x : End). x.out) e)) c
+-- the named file is held, and the request goes on with it
+file_goes_on : (word : ℕ) (file : Option (List ℕ)) (next : List ℕ → End → Type 0) (text : List ℕ) → FileThen true word file next (done text) → (bytes : List ℕ) × (file ≡ Some bytes) × next bytes (done text)
+file_goes_on word None next text h = absurd (not_refused text 3 _ refl h)
+file_goes_on word (Some bytes) next text (inl h) = (bytes, refl, h.1)
+file_goes_on word (Some bytes) next text (inr (inl h)) = absurd (not_refused text 2 _ refl h.1)
+file_goes_on word (Some bytes) next text (inr (inr h)) = absurd (not_refused text 3 _ refl h.1)
 
-compiled_problem : (files : Files) (d p dom text : List ℕ) (prob : Option (List ℕ)) → get files d ≡ Some dom → get files p ≡ prob
-    → FileThen true 3 prob (λ bytes. CompileEnds dom bytes) (done text) → Compiled files (Some (compile d p)) text
-compiled_problem files d p dom text None e f h = absurd (not_refused text 3 _ refl h)
-compiled_problem files d p dom text (Some prob) e f (inl h) = (dom, prob, e, f, compiled_texts dom prob text h.1)
-compiled_problem files d p dom text (Some prob) e f (inr (inl h)) = absurd (not_refused text 2 _ refl h.1)
-compiled_problem files d p dom text (Some prob) e f (inr (inr h)) = absurd (not_refused text 3 _ refl h.1)
+compiled : (dom prob text : List ℕ) → CompileEnds dom prob (done text) → Compiles dom prob text
+compiled dom prob text (domain_fails f h e) = absurd (not_refused text 2 _ refl e)
+compiled dom prob text (problem_fails d f r h e) = absurd (not_refused text 2 _ refl e)
+compiled dom prob text (domain_not_built d p r q h e) = absurd (not_refused text 2 _ refl e)
+compiled dom prob text (problem_not_built p r q h e) = absurd (not_refused text 2 _ refl e)
+compiled dom prob text (compiles other c e) = subst (Compiles dom prob) (sym (ap (λ (x : End). x.out) e)) c
 
-compiled_domain : (files : Files) (d p text : List ℕ) (dom : Option (List ℕ)) → get files d ≡ dom
-    → FileThen true 2 dom (λ bytes. FileThen true 3 (get files p) (λ prob. CompileEnds bytes prob)) (done text) → Compiled files (Some (compile d p)) text
-compiled_domain files d p text None e h = absurd (not_refused text 3 _ refl h)
-compiled_domain files d p text (Some dom) e (inl h) = compiled_problem files d p dom text (get files p) e refl h.1
-compiled_domain files d p text (Some dom) e (inr (inl h)) = absurd (not_refused text 2 _ refl h.1)
-compiled_domain files d p text (Some dom) e (inr (inr h)) = absurd (not_refused text 3 _ refl h.1)
+formatted : {A : Type 0} (grammar : List Lexeme → A → Type 0) (note : List ℕ → ReadFault → List ℕ) (canonical : A → List ℕ) (bytes text : List ℕ) → FormatEnds grammar note canonical bytes (done text) → Formats grammar canonical bytes text
+formatted grammar note canonical bytes text (fails f h e) = absurd (not_refused text 2 _ refl e)
+formatted grammar note canonical bytes text (prints tree r e) = (tree, r, ap (λ (x : End). x.out) e)
 
-compiled_request : (files : Files) (request : Option Request) (text : List ℕ) → RequestEnds true files request (done text) → Compiled files request text
-compiled_request files None text h = absurd (not_refused text 1 _ refl h)
-compiled_request files (Some (compile d p)) text h = compiled_domain files d p text (get files d) refl h
+result_of : (files : Files) (request : Option Request) (text : List ℕ) → RequestEnds true files request (done text) → IsResult files request text
+result_of files None text h = absurd (not_refused text 1 _ refl h)
+result_of files (Some (compile d p)) text h =
+    let dom = file_goes_on 2 (get files d) (λ dom. FileThen true 3 (get files p) (CompileEnds dom)) text h in
+    let prob = file_goes_on 3 (get files p) (CompileEnds dom.0) text dom.2 in
+    (dom.0, prob.0, dom.1, prob.1, compiled dom.0 prob.0 text prob.2)
+result_of files (Some (fmt_domain d)) text h = let dom = file_goes_on 2 (get files d) FormatDomainEnds text h in (dom.0, dom.1, formatted domain domain_fault domain_text dom.0 text dom.2)
+result_of files (Some (fmt_problem p)) text h = let prob = file_goes_on 2 (get files p) FormatProblemEnds text h in (prob.0, prob.1, formatted problem problem_fault problem_text prob.0 text prob.2)
 
-pub compiled_of_files : (held : Option Files) (request : Option Request) (old new : Option (List ℕ))
-    → IfSome held (λ files. Writes (RequestEnds true files request) old new (Ok tt)) → IfSome held (λ files. Carried files request old new)
-compiled_of_files None request old new h = tt
-compiled_of_files (Some files) request old new h = (h.0, compiled_request files request h.0 h.1, h.2)
+pub result_of_files : (held : Option Files) (request : Option Request) (old new : Option (List ℕ))
+    → IfSome held (λ files. Writes (RequestEnds true files request) old new (Ok tt)) → IfSome held (λ files. (text : List ℕ) × IsResult files request text × (new ≡ with_bytes old text))
+result_of_files None request old new h = tt
+result_of_files (Some files) request old new h = (h.0, result_of files request h.0 h.1, h.2)

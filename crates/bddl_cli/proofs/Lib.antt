@@ -5,3 +5,5 @@ pub mod Built
 pub mod Requested
 pub mod Answered
 pub mod StartProblems
+pub mod TextFaults
+pub mod Written

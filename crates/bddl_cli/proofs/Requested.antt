@@ -3,8 +3,7 @@ use Rattle.std.proofs.Common.{ℕ, ◌≡◌, ◌≤◌, Bool, true, false, List
 use Rattle.std.specs.Prelude.{IfSome, IsTrue}
 use Rattle.std.specs.FinMap.{get}
 use Rattle.bddl_model.specs.Files.{Files, file_at}
-use Rattle.bddl_model.specs.Request.{compile}
-use Rattle.bddl_model.specs.Outcome.{End, file_limit, done, CompileEnds, RequestEnds, FileThen}
+use Rattle.bddl_model.specs.Outcome.{End, file_limit, done, FileThen}
 use Rattle.bddl_cli.specs.Ends.{Writes, IsFile, IsReadEnd, is_read_fault, reported}
 use Rattle.bddl_cli.specs.declared.refusal.Refusal.{Refusal}
 use Rattle.bddl_cli.specs.declared.refusal.Refusal.TheVariants as refusal
@@ -23,15 +22,23 @@ writes_as P Q f old new (Err stop.NoMemory) (inr (end, e, w)) = inr (end, f end 
 goes_on : (faulty : Bool) (word : ℕ) (held : Option (List ℕ)) (file : List ℕ) (next : List ℕ → End → Type 0) (end : End) → held ≡ Some file → length file ≤ file_limit → next file end → FileThen faulty word held next end
 goes_on faulty word held file next end e short h = subst (λ f. FileThen faulty word f next end) (sym e) (inl (short, h))
 
--- both files were read
-pub writes_of_files : (faulty : Bool) (held : Option Files) (d p dom prob : List ℕ) (old new : Option (List ℕ)) (r : Result Unit Stop)
-    → IsFile held d dom → length dom ≤ file_limit → IsFile held p prob → length prob ≤ file_limit → Writes (CompileEnds dom prob) old new r
-    → IfSome held (λ files. Writes (RequestEnds faulty files (Some (compile d p))) old new r)
-writes_of_files faulty None d p dom prob old new r a s b t w = tt
-writes_of_files faulty (Some files) d p dom prob old new r a s b t w =
-    writes_as (CompileEnds dom prob) (RequestEnds faulty files (Some (compile d p)))
-    (λ end h. goes_on faulty 2 (get files d) dom (λ x. FileThen faulty 3 (get files p) (λ y. CompileEnds x y)) end a s (goes_on faulty 3 (get files p) prob (λ y. CompileEnds dom y) end b t h))
-    old new r w
+-- a named file was read, and what the request wrote is an end from there on
+pub writes_of_file : (faulty : Bool) (held : Option Files) (word : ℕ) (name file : List ℕ) (next : Files → List ℕ → End → Type 0) (old new : Option (List ℕ)) (r : Result Unit Stop)
+    → IsFile held name file → length file ≤ file_limit → IfSome held (λ files. Writes (next files file) old new r)
+    → IfSome held (λ files. Writes (FileThen faulty word (get files name) (next files)) old new r)
+writes_of_file faulty None word name file next old new r there short w = tt
+writes_of_file faulty (Some files) word name file next old new r there short w =
+    writes_as (next files file) (FileThen faulty word (get files name) (next files)) (λ end h. goes_on faulty word (get files name) file (next files) end there short h) old new r w
+
+-- a named file was read, the last of the request
+pub writes_of_last_file : (faulty : Bool) (held : Option Files) (word : ℕ) (name file : List ℕ) (next : List ℕ → End → Type 0) (old new : Option (List ℕ)) (r : Result Unit Stop)
+    → IsFile held name file → length file ≤ file_limit → Writes (next file) old new r
+    → IfSome held (λ files. Writes (FileThen faulty word (get files name) next) old new r)
+writes_of_last_file faulty held word name file next old new r there short w = writes_of_file faulty held word name file (λ files. next) old new r there short (where_told held)
+  where
+    where_told : (held : Option Files) → IfSome held (λ files. Writes (next file) old new r)
+    where_told None = tt
+    where_told (Some files) = w
 
 -- ---- the reading of a file stopped
 
@@ -60,17 +67,10 @@ writes_stop ends (stop.Refused r) old held word name h goes = (refl, goes r refl
 writes_stop ends stop.WriteFault old held word name h goes = absurd h
 writes_stop ends stop.NoMemory old held word name h goes = inl refl
 
-pub domain_file_stops : (faulty : Bool) (held : Option Files) (d p : List ℕ) (s : Stop) (old : Option (List ℕ)) → IsReadEnd held 2 d s → MayFail faulty held d s
-    → IfSome held (λ files. Writes (RequestEnds faulty files (Some (compile d p))) old old (Err s))
-domain_file_stops faulty None d p s old h may = tt
-domain_file_stops faulty (Some files) d p s old h may =
-    writes_stop (RequestEnds faulty files (Some (compile d p))) s old (Some files) 2 d h
-    (λ r e. stop_ends faulty files 2 d _ r (subst (IsReadEnd (Some files) 2 d) e h) (subst (MayFail faulty (Some files) d) e may))
-
-pub problem_file_stops : (faulty : Bool) (held : Option Files) (d p dom : List ℕ) (s : Stop) (old : Option (List ℕ)) → IsFile held d dom → length dom ≤ file_limit → IsReadEnd held 3 p s → MayFail faulty held p s
-    → IfSome held (λ files. Writes (RequestEnds faulty files (Some (compile d p))) old old (Err s))
-problem_file_stops faulty None d p dom s old a t h may = tt
-problem_file_stops faulty (Some files) d p dom s old a t h may =
-    writes_stop (RequestEnds faulty files (Some (compile d p))) s old (Some files) 3 p h
-    (λ r e. goes_on faulty 2 (get files d) dom (λ x. FileThen faulty 3 (get files p) (λ y. CompileEnds x y)) (reported r) a t
-    (stop_ends faulty files 3 p _ r (subst (IsReadEnd (Some files) 3 p) e h) (subst (MayFail faulty (Some files) p) e may)))
+-- a named file could not be read, or is too long
+pub file_stops : (faulty : Bool) (held : Option Files) (word : ℕ) (name : List ℕ) (next : Files → List ℕ → End → Type 0) (s : Stop) (old : Option (List ℕ)) → IsReadEnd held word name s → MayFail faulty held name s
+    → IfSome held (λ files. Writes (FileThen faulty word (get files name) (next files)) old old (Err s))
+file_stops faulty None word name next s old h may = tt
+file_stops faulty (Some files) word name next s old h may =
+    writes_stop (FileThen faulty word (get files name) (next files)) s old (Some files) word name h
+    (λ r e. stop_ends faulty files word name (next files) r (subst (IsReadEnd (Some files) word name) e h) (subst (MayFail faulty (Some files) name) e may))

@@ -1,5 +1,6 @@
 // The trees of the two texts of a game, or their faults.
-ghost use Rattle.std.specs.Prelude.{◌≡◌, ◌≤◌, ◌⊎◌, length, IfOk, IfErr};
+ghost use Rattle.std.specs.Prelude.{◌≡◌, ◌≤◌, ◌⊎◌, length, IfOk, IfErr, IsTrue};
+ghost use Rattle.bddl_model.specs.Canonical.{domain_can_be_spelled, problem_can_be_spelled};
 ghost use Rattle.bddl_model.specs.Grammar.{domain, problem};
 ghost use Rattle.bddl_model.specs.Reading.{Reads};
 ghost use Rattle.bddl_cli.specs.Ends.{IsWithin, fault_stop, FailsAs};
@@ -15,6 +16,7 @@ use std::alloc::Global;
 pub fn domain_tree(alloc: Global, bytes: &[u8]) -> Result<DomainText, Stop>
     requires { length bytes.now ≤ 1048576 }
     ensures found { IfOk result (λ tree. Reads domain bytes.now tree) }
+    ensures spelled { IfOk result (λ tree. IsTrue (domain_can_be_spelled tree)) }
     ensures stop { IfErr result (FailsAs domain game_text.Domain bytes.now) }
 {
     match read_domain(alloc, bytes) {
@@ -27,6 +29,7 @@ pub fn domain_tree(alloc: Global, bytes: &[u8]) -> Result<DomainText, Stop>
 pub fn problem_tree(alloc: Global, bytes: &[u8]) -> Result<ProblemText, Stop>
     requires { length bytes.now ≤ 1048576 }
     ensures found { IfOk result (λ tree. Reads problem bytes.now tree) }
+    ensures spelled { IfOk result (λ tree. IsTrue (problem_can_be_spelled tree)) }
     ensures stop { IfErr result (FailsAs problem game_text.Problem bytes.now) }
 {
     match read_problem(alloc, bytes) {

@@ -6,6 +6,7 @@
 
 mod compile;
 mod form_text;
+mod format;
 mod game_texts;
 mod read;
 mod refusal;

@@ -1,12 +1,13 @@
 // The top call.
 ghost use Rattle.std.specs.Prelude.{◌≡◌, ◌==◌, ◌≢◌, ◌<◌, ◌≤◌, ◌⊎◌, ◌↔◌, List, ℕ, None, Some, true, false, IfOk, IfErr, IfSome, OnErr, map, string_bytes};
-ghost use Rattle.bddl_model.specs.Outcome.{End, RequestEnds, Compiled};
+ghost use Rattle.bddl_model.specs.Outcome.{End, RequestEnds, IsResult};
 ghost use Rattle.bddl_model.specs.Request.{request_of};
 ghost use Rattle.io_edge.specs.Outside.{Counts, Rose, with_bytes};
 ghost use Rattle.bddl_cli.specs.Ends.{Writes, Tells, Answers, EndsAs, MayMeet, StopsAsMayBe, KeepsOut, is_read_fault, is_write_fault, reported, text_name, words_of};
 ghost use Rattle.bddl_model.specs.Notes.{place_note};
 
 use crate::compile::compile;
+use crate::format::{format_domain, format_problem};
 use crate::read::FILE_LIMIT;
 use crate::refusal::{GameText, Refusal, Stop, Trouble};
 use crate::request::{Request, read_request};
@@ -34,10 +35,11 @@ pub fn run<S: Shelf, K: Sink, N: Sink>(
         Answers (RequestEnds false files (request_of (map (λ w. w.items) words.now)))
         (K.written out.old) (K.written out.new) (N.written note.old) (N.written note.new) result) }
 
-    // With 0 the whole of out is the text of a form that encodes the problem of the two files, and
-    // this form alone is read from the text. Its value is that of winning.
-    ensures compiled { result ≡ 0 → IfSome (S.held shelf.old) (λ files. (text : List ℕ)
-        × Compiled files (request_of (map (λ w. w.items) words.now)) text × (K.written out.new ≡ with_bytes (K.written out.old) text)) }
+    // With 0 the whole of out is what the request asks for. That of `compile` is the text of a form
+    // that encodes the problem of the two files, and this form alone is read from the text: its value
+    // is that of winning. That of the others is the canonical text of the file's tree.
+    ensures carried_out { result ≡ 0 → IfSome (S.held shelf.old) (λ files. (text : List ℕ)
+        × IsResult files (request_of (map (λ w. w.items) words.now)) text × (K.written out.new ≡ with_bytes (K.written out.old) text)) }
 
     // 1 is for words that are no request.
     ensures words { result ≡ 1 → request_of (map (λ w. w.items) words.now) ≡ None }
@@ -81,6 +83,8 @@ fn carry_out<S: Shelf, K: Sink>(
     match read_request(words) {
         None => Err(Stop::Refused(Refusal::NoRequest)),
         Some(Request::Compile { domain, problem }) => compile(alloc, domain, problem, shelf, out),
+        Some(Request::FormatDomain { domain }) => format_domain(alloc, domain, shelf, out),
+        Some(Request::FormatProblem { problem }) => format_problem(alloc, problem, shelf, out),
     }
 }
 

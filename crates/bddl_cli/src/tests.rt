@@ -1,4 +1,5 @@
 mod evaluator;
+mod formatting;
 mod start_positions;
 
 use crate::run::run;
@@ -94,13 +95,16 @@ fn boards_of_all_sizes_compile(rt: HostRuntime) -> Result<(), Fail> {
 
 #[test]
 fn other_words_are_no_request(rt: HostRuntime) -> Result<(), Fail> {
-    let cases: [&[&[u8]]; 6] = [
+    let cases: [&[&[u8]]; 9] = [
         &[],
         &[b"resolve"],
         &[b"compile"],
         &[b"compile", b"d"],
         &[b"compile", b"d", b"p", b"p"],
         &[b"Compile", b"d", b"p"],
+        &[b"fmt-domain"],
+        &[b"fmt-problem", b"p", b"p"],
+        &[b"fmt", b"d"],
     ];
     for words in &cases {
         let mut shelf = shelf_of(rt.alloc(), DOMAIN, PROBLEM)?;

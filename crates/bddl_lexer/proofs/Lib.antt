@@ -3,4 +3,5 @@ pub mod OneReading
 pub mod Placing
 pub mod Answered
 pub mod PlaceLaws
+pub mod WrittenTokens
 mod Examples

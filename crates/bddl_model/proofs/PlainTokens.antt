@@ -26,7 +26,7 @@ digit_is d h = and_from (nat_le 48 (48 + d)) (nat_le (48 + d) 57) (le-leb 48 (48
 last_small : (n : ℕ) → n % 10 < 10
 last_small n = omega arith
 
-decimal_digits : (n : ℕ) → n < 2 ^ 64 → AllDigits (decimal n)
+pub decimal_digits : (n : ℕ) → n < 2 ^ 64 → AllDigits (decimal n)
 decimal_digits n h = decimal_by_steps (λ n ds. AllDigits ds) (λ n small. (digit_is n small, tt)) (λ n ds big so. AllPass-append is_digit ds ((48 + n % 10) ∷ []) so (digit_is (n % 10) (last_small n), tt)) n h
 
 -- reading goes on behind the digits of n with n
@@ -40,7 +40,7 @@ decimal_value n h = decimal_by_steps (λ n ds. (rest : List ℕ) → digits_from
     more n ds big so rest =
         ap (digits_from 0) (append_assoc ds ((48 + n % 10) ∷ []) rest) ∙ so ((48 + n % 10) ∷ rest) ∙ rw (digit_is (n % 10) (last_small n)) (ap (λ (m : ℕ). digits_from m rest) (let q : 10 * (n / 10) + (48 + n % 10 - 48) ≡ n = omega arith in q))
 
-number_is : (n : ℕ) → n < 1000000000 → digits_value (decimal n) ≡ Some n
+pub number_is : (n : ℕ) → n < 1000000000 → digits_value (decimal n) ≡ Some n
 number_is n h =
     let some = decimal_nonempty n (omega arith) in
     let few = length-decimal-le 9 n (omega arith) (omega arith) (omega arith) in

@@ -23,6 +23,7 @@ pub mod Setup
 pub mod Start
 pub mod Bits
 pub mod Layout
+pub mod Canonical
 pub mod Notes
 pub mod Request
 pub mod Outcome

@@ -5,9 +5,11 @@ use Rattle.bddl_model.specs.declared.formula.Quant.TheVariants.{Exists}
 use Rattle.bddl_model.specs.declared.texts.DomainText.{DomainText}
 use Rattle.bddl_model.specs.declared.texts.ProblemText.{ProblemText}
 use Rattle.bddl_model.specs.Files.{Files}
-use Rattle.bddl_model.specs.Request.{Request, compile}
+use Rattle.bddl_model.specs.Request.{Request, compile, fmt_domain, fmt_problem}
 use Rattle.bddl_model.specs.Notes as notes
+use Rattle.bddl_model.specs.Tokens.{Lexeme}
 use Rattle.bddl_model.specs.Grammar.{domain, problem}
+use Rattle.bddl_model.specs.Canonical.{domain_text, problem_text}
 use Rattle.bddl_model.specs.declared.fault.ReadFault.{ReadFault}
 use Rattle.bddl_model.specs.Reading.{Reads, ReadFails}
 use Rattle.bddl_model.specs.Truth.{Formula, form_value}
@@ -69,6 +71,19 @@ pub data CompileEnds (d p : List ℕ) (end : End) : Type 0 where
   problem_not_built : (prob : ProblemText) → Reads domain d no_actions → Reads problem p prob → (IsStartProblem prob → ⊥) → end ≡ refused 2 notes.problem_not_built → CompileEnds d p end
   compiles : (text : List ℕ) → Compiles d p text → end ≡ done text → CompileEnds d p end
 
+-- ---- printing
+
+-- What printing a text of this grammar may end as: its fault is told, or the canonical text of its tree is written.
+pub data FormatEnds {A : Type 0} (grammar : List Lexeme → A → Type 0) (fault_note : List ℕ → ReadFault → List ℕ) (canonical : A → List ℕ) (bytes : List ℕ) (end : End) : Type 0 where
+  fails : (f : ReadFault) → ReadFails grammar bytes f → end ≡ refused 2 (fault_note bytes f) → FormatEnds grammar fault_note canonical bytes end
+  prints : (tree : A) → Reads grammar bytes tree → end ≡ done (canonical tree) → FormatEnds grammar fault_note canonical bytes end
+
+abbrev pub FormatDomainEnds : List ℕ → End → Type 0
+FormatDomainEnds bytes end = FormatEnds domain notes.domain_fault domain_text bytes end
+
+abbrev pub FormatProblemEnds : List ℕ → End → Type 0
+FormatProblemEnds bytes end = FormatEnds problem notes.problem_fault problem_text bytes end
+
 -- ---- every request
 
 -- Goes on with a file that is not too long, or tells what is wrong with the word of this number: it names no file, or one that
@@ -84,8 +99,16 @@ FileThen faulty word (Some file) next end =
 abbrev pub RequestEnds : Bool → Files → Option Request → End → Type 0
 RequestEnds faulty files None end = end ≡ refused 1 notes.no_such_request
 RequestEnds faulty files (Some (compile d p)) end = FileThen faulty 2 (get files d) (λ dom. FileThen faulty 3 (get files p) (λ prob. CompileEnds dom prob)) end
+RequestEnds faulty files (Some (fmt_domain d)) end = FileThen faulty 2 (get files d) FormatDomainEnds end
+RequestEnds faulty files (Some (fmt_problem p)) end = FileThen faulty 2 (get files p) FormatProblemEnds end
+
+-- the text is the canonical one of the tree that the bytes spell
+abbrev pub Formats : {A : Type 0} → (List Lexeme → A → Type 0) → (A → List ℕ) → List ℕ → List ℕ → Type 0
+Formats {A} grammar canonical bytes text = (tree : A) × Reads grammar bytes tree × (text ≡ canonical tree)
 
 -- a request that is carried out with status 0 writes this
-abbrev pub Compiled : Files → Option Request → List ℕ → Type 0
-Compiled files None text = ⊥
-Compiled files (Some (compile d p)) text = (dom prob : List ℕ) × (get files d ≡ Some dom) × (get files p ≡ Some prob) × Compiles dom prob text
+abbrev pub IsResult : Files → Option Request → List ℕ → Type 0
+IsResult files None text = ⊥
+IsResult files (Some (compile d p)) text = (dom prob : List ℕ) × (get files d ≡ Some dom) × (get files p ≡ Some prob) × Compiles dom prob text
+IsResult files (Some (fmt_domain d)) text = (dom : List ℕ) × (get files d ≡ Some dom) × Formats domain domain_text dom text
+IsResult files (Some (fmt_problem p)) text = (prob : List ℕ) × (get files p ≡ Some prob) × Formats problem problem_text prob text

@@ -7,4 +7,8 @@ pub mod Loops
 pub mod Faults
 pub mod Answered
 pub mod OneTree
+pub mod Pushed
+pub mod Spelled
+pub mod SpelledLines
+pub mod Spellable
 mod Examples

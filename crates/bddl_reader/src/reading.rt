@@ -1,12 +1,13 @@
 // Whole texts: first all tokens, then the tree.
 
-ghost use Rattle.std.specs.Prelude.{◌≡◌, ◌⊎◌, ◌≤◌, length, slice_get, IfOk, IfErr, Ok, Err};
+ghost use Rattle.std.specs.Prelude.{◌≡◌, ◌⊎◌, ◌≤◌, length, slice_get, IsTrue, IfOk, IfErr, Ok, Err};
 ghost use Rattle.bddl_model.specs.declared.fault.ReadFault.{ReadFault};
 ghost use Rattle.bddl_model.specs.declared.fault.ReadFault.TheVariants.{NoMemory as out_of_memory};
 ghost use Rattle.bddl_model.specs.declared.texts.DomainText.{DomainText};
 ghost use Rattle.bddl_model.specs.declared.texts.ProblemText.{ProblemText};
 ghost use Rattle.bddl_model.specs.Tokens.{AreTokens};
 ghost use Rattle.bddl_model.specs.Grammar.{domain, problem};
+ghost use Rattle.bddl_model.specs.Canonical.{domain_can_be_spelled, problem_can_be_spelled};
 ghost use Rattle.bddl_model.specs.Reading.{Reads, ReadFails, UnlessNoMemory};
 ghost use Rattle.bddl_reader.specs.Faults.{lexer_fault, token_fault, stop_fault, left_at, IsLexerFault};
 
@@ -97,6 +98,7 @@ fn problem_of(alloc: Global, bytes: &[u8]) -> Result<ProblemText, ReadFault>
 pub fn read_domain(alloc: Global, bytes: &[u8]) -> Result<DomainText, ReadFault>
     requires { length bytes.now ≤ 1048576 }
     ensures found { IfOk result (λ tree. Reads domain bytes.now tree) }
+    ensures spelled { IfOk result (λ tree. IsTrue (domain_can_be_spelled tree)) }
 
     // A text that spells a domain is read, if memory suffices.
     ensures only { (tree : DomainText) → Reads domain bytes.now tree → UnlessNoMemory result (Ok tree) }
@@ -112,6 +114,7 @@ pub fn read_domain(alloc: Global, bytes: &[u8]) -> Result<DomainText, ReadFault>
 pub fn read_problem(alloc: Global, bytes: &[u8]) -> Result<ProblemText, ReadFault>
     requires { length bytes.now ≤ 1048576 }
     ensures found { IfOk result (λ tree. Reads problem bytes.now tree) }
+    ensures spelled { IfOk result (λ tree. IsTrue (problem_can_be_spelled tree)) }
 
     // A text that spells a problem is read, if memory suffices.
     ensures only { (tree : ProblemText) → Reads problem bytes.now tree → UnlessNoMemory result (Ok tree) }

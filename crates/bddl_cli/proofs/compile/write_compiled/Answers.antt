@@ -1,6 +1,7 @@
 use Rattle.std.proofs.lemmas.Result.{err_from_is_err_and}
 use Rattle.bddl_model.specs.Outcome.{CompileEnds}
-use Rattle.bddl_cli.proofs.Built.{stops_writing, form_is_written, form_is_cut}
+use Rattle.bddl_cli.proofs.Built.{form_ends}
+use Rattle.bddl_cli.proofs.Written.{stops_writing, text_is_written, text_is_cut}
 use Rattle.bddl_cli.proofs.compile.write_compiled.Goals as goal
 
 pub returns-in_err-tree-clause-written : goal.returns-in_err-tree-clause-written
@@ -11,7 +12,10 @@ returns-in_err-tree-clause-written g c =
 pub returns-in_err-write_form-clause-written : goal.returns-in_err-write_form-clause-written
 returns-in_err-write_form-clause-written g c =
     let end = err_from_is_err_and c.from_residual-in_err-write_form.result c.from_residual-in_err-write_form.ensures.1 in
-    rw (end.1, end.2) (form_is_cut c.args.domain.now c.args.problem.now c.in_ok-tree.tree _ c.in_ok-tree.ensures.found c.in_ok-form.ensures _ _ c.in_err-write_form.field-0.0 c.in_err-write_form.ensures.text)
+    let ends = form_ends c.args.domain.now c.args.problem.now c.in_ok-tree.tree _ c.in_ok-tree.ensures.found c.in_ok-form.ensures in
+    rw (end.1, end.2) (text_is_cut (CompileEnds c.args.domain.now c.args.problem.now) _ ends _ _ c.in_err-write_form.field-0.0 c.in_err-write_form.ensures.text)
 
 pub returns-clause-written : goal.returns-clause-written
-returns-clause-written g c = form_is_written c.args.domain.now c.args.problem.now c.in_ok-tree.tree _ c.in_ok-tree.ensures.found c.in_ok-form.ensures _ _ c.in_ok-write_form.ensures.text
+returns-clause-written g c =
+    let ends = form_ends c.args.domain.now c.args.problem.now c.in_ok-tree.tree _ c.in_ok-tree.ensures.found c.in_ok-form.ensures in
+    text_is_written (CompileEnds c.args.domain.now c.args.problem.now) _ ends _ _ c.in_ok-write_form.ensures.text

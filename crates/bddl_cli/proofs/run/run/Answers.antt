@@ -1,9 +1,9 @@
 use Rattle.std.proofs.Common.{false, inl, inr, refl}
-use Rattle.bddl_cli.proofs.Answered.{told_refusal, cut_of_files, compiled_of_files}
+use Rattle.bddl_cli.proofs.Answered.{told_refusal, cut_of_files, result_of_files}
 use Rattle.bddl_cli.proofs.run.run.Goals as goal
 
-pub returns-in-Ok-clause-compiled : goal.returns-in-Ok-clause-compiled
-returns-in-Ok-clause-compiled g c e = compiled_of_files (g.S.Shelf.held c.args.shelf.now) _ _ _ c.in-Ok.ensures.told
+pub returns-in-Ok-clause-carried_out : goal.returns-in-Ok-clause-carried_out
+returns-in-Ok-clause-carried_out g c e = result_of_files (g.S.Shelf.held c.args.shelf.now) _ _ _ c.in-Ok.ensures.told
 
 pub returns-in-Err-Refused-clause-refused : goal.returns-in-Err-Refused-clause-refused
 returns-in-Err-Refused-clause-refused g c zero four five =

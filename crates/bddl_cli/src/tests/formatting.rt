@@ -1,0 +1,130 @@
+// Canonical texts, by the requests `fmt-domain` and `fmt-problem`.
+
+use super::{answer_of, shelf_of, words_of};
+use crate::run::run;
+use io_edge::{MemorySink, SteadySink};
+use std::alloc::Global;
+use std::process::Abort;
+use std::test::Fail;
+
+const OCCUPYING: &[u8] = b"#blackactions
+:action occupy
+:parameters (?x, ?y)
+:precondition (open(?x,?y))
+:effect (black(?x,?y))
+#whiteactions
+:action occupy
+:parameters (?x, ?y)
+:precondition (open(?x,?y))
+:effect (white(?x,?y))
+";
+
+const ON_ONE_LINE: &[u8] =
+    b"#blackactions :action occupy :parameters (?x,?y) :precondition (open(?x+0,?y)) :effect(black (?x,?y)) #whiteactions :action occupy :parameters (?x ,?y) :precondition(open(?x,?y)) :effect (white(?x,?y)) ; that is all";
+
+const SIX_LINES: &[u8] =
+    b"#boardsize 2 2\n#init ()\n#depth 0\n#blackgoals\n(black(xmin,2))\n#whitegoals\n";
+
+// The request of this word writes this text for the bytes of its file.
+fn assert_written(
+    rt: &impl Abort,
+    alloc: Global,
+    word: &[u8],
+    bytes: &[u8],
+    text: &[u8],
+) -> Result<(), Fail> {
+    let mut shelf = shelf_of(alloc, bytes, b"")?;
+    let answer = answer_of(alloc, &[word, b"d"], &mut shelf)?;
+    assert_eq!(rt; answer.status, 0);
+    assert_eq!(rt; answer.out.as_slice(), text);
+    assert!(rt; answer.note.is_empty());
+    Ok(())
+}
+
+#[test]
+fn a_domain_on_one_line_gets_its_lines(rt: HostRuntime) -> Result<(), Fail> {
+    assert_written(&rt, rt.alloc(), b"fmt-domain", ON_ONE_LINE, OCCUPYING)
+}
+
+#[test]
+fn a_problem_on_one_line_gets_its_lines(rt: HostRuntime) -> Result<(), Fail> {
+    let problem = b"#boardsize 02 2 #init () #depth 0 #blackgoals (black(xmin,02)) #whitegoals";
+    assert_written(&rt, rt.alloc(), b"fmt-problem", problem, SIX_LINES)
+}
+
+#[test]
+fn a_canonical_text_stays_as_it_is(rt: HostRuntime) -> Result<(), Fail> {
+    assert_written(&rt, rt.alloc(), b"fmt-domain", OCCUPYING, OCCUPYING)?;
+    assert_written(&rt, rt.alloc(), b"fmt-problem", SIX_LINES, SIX_LINES)
+}
+
+#[test]
+fn what_a_problem_says_is_not_checked(rt: HostRuntime) -> Result<(), Fail> {
+    let problem =
+        b"#boardsize 0 99\n#init (black(7,0) white(7,0))\n#depth 100\n#blackgoals\n#whitegoals\n()\n(open(?x-5,ymax) white(?x+999999999,?y))\n";
+    assert_written(&rt, rt.alloc(), b"fmt-problem", problem, problem)
+}
+
+#[test]
+fn faults_are_told_with_their_places(rt: HostRuntime) -> Result<(), Fail> {
+    let cases: [(&[u8], &[u8], &[u8]); 5] = [
+        (b"fmt-domain", b"", b"domain:1:1: text ends early\n"),
+        (b"fmt-domain", SIX_LINES, b"domain:1:1: unexpected word\n"),
+        (
+            b"fmt-domain",
+            b"#blackactions\n?",
+            b"domain:2:1: bad byte\n",
+        ),
+        (b"fmt-problem", OCCUPYING, b"problem:1:1: unexpected word\n"),
+        (
+            b"fmt-problem",
+            b"#boardsize 1 1234567890",
+            b"problem:1:14: number too long\n",
+        ),
+    ];
+    for (word, bytes, note) in &cases {
+        let mut shelf = shelf_of(rt.alloc(), bytes, b"")?;
+        let answer = answer_of(rt.alloc(), &[word, b"d"], &mut shelf)?;
+        assert_eq!(rt; answer.status, 2);
+        assert_eq!(rt; answer.note.as_slice(), *note);
+        assert!(rt; answer.out.is_empty());
+    }
+    Ok(())
+}
+
+#[test]
+fn the_one_file_is_that_of_word_2(rt: HostRuntime) -> Result<(), Fail> {
+    let alloc = rt.alloc();
+    let mut longer = OCCUPYING.to_vec(alloc)?;
+    longer.resize(1_048_577, b' ')?;
+    for word in [b"fmt-domain".as_slice(), b"fmt-problem".as_slice()] {
+        let mut shelf = shelf_of(alloc, &longer, b"")?;
+        let answer = answer_of(alloc, &[word, b"d"], &mut shelf)?;
+        assert_eq!(rt; answer.status, 2);
+        assert_eq!(rt;
+            answer.note.as_slice(),
+            b"word 2: longer than 1048576 bytes\n".as_slice()
+        );
+        let answer = answer_of(alloc, &[word, b"q"], &mut shelf)?;
+        assert_eq!(rt; answer.status, 3);
+        assert_eq!(rt; answer.note.as_slice(), b"word 2: read fault\n".as_slice());
+    }
+    Ok(())
+}
+
+#[test]
+fn a_failing_write_leaves_a_front(rt: HostRuntime) -> Result<(), Fail> {
+    let alloc = rt.alloc();
+    for kept in [0, 1, 1000] {
+        let mut shelf = shelf_of(alloc, ON_ONE_LINE, b"")?;
+        let mut out = MemorySink::new(alloc);
+        out.fail_at(1, kept)?;
+        let mut note = SteadySink::new(alloc);
+        let words = words_of(alloc, &[b"fmt-domain", b"d"])?;
+        assert_eq!(rt; run(alloc, &words, &mut shelf, &mut out, &mut note), 4);
+        assert!(rt; OCCUPYING.starts_with(out.bytes()));
+        assert_eq!(rt; out.bytes().len(), OCCUPYING.len().min(kept as usize));
+        assert!(rt; note.bytes().is_empty());
+    }
+    Ok(())
+}

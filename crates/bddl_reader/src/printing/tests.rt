@@ -1,0 +1,92 @@
+use crate::{print_domain, print_problem, read_domain, read_problem};
+use std::test::Fail;
+
+#[test]
+fn a_domain_on_one_line_is_laid_out(rt: HostRuntime) -> Result<(), Fail> {
+    let text =
+        b"#blackactions:action occupy:parameters(?x,?y):precondition(open(?x+0,?y)):effect(black(?x,?y-00))#whiteactions;none";
+    let domain = read_domain(rt.alloc(), text)?;
+    let printed = print_domain(rt.alloc(), &domain)?;
+    let canonical = b"#blackactions
+:action occupy
+:parameters (?x, ?y)
+:precondition (open(?x,?y))
+:effect (black(?x,?y))
+#whiteactions
+";
+    assert_eq!(rt; printed.as_slice(), canonical.as_slice());
+    Ok(())
+}
+
+#[test]
+fn actions_keep_their_order_and_their_atoms(rt: HostRuntime) -> Result<(), Fail> {
+    let text = b"#blackactions
+:action right :parameters (?x, ?y)
+:precondition (open(?x,?y)open(?x+1,?y))
+:effect ( black(?x,?y)  black(?x+1,?y) )
+:action wait :parameters (?x, ?y) :precondition () :effect ( )
+#whiteactions
+:action left-2 :parameters (?x, ?y) :precondition (open(?x-2,ymin)) :effect (white(xmax,?y))
+:action a :parameters (?x, ?y) :precondition () :effect (open(xmin,ymax))
+";
+    let domain = read_domain(rt.alloc(), text)?;
+    let printed = print_domain(rt.alloc(), &domain)?;
+    let canonical = b"#blackactions
+:action right
+:parameters (?x, ?y)
+:precondition (open(?x,?y) open(?x+1,?y))
+:effect (black(?x,?y) black(?x+1,?y))
+:action wait
+:parameters (?x, ?y)
+:precondition ()
+:effect ()
+#whiteactions
+:action left-2
+:parameters (?x, ?y)
+:precondition (open(?x-2,ymin))
+:effect (white(xmax,?y))
+:action a
+:parameters (?x, ?y)
+:precondition ()
+:effect (open(xmin,ymax))
+";
+    assert_eq!(rt; printed.as_slice(), canonical.as_slice());
+    Ok(())
+}
+
+#[test]
+fn a_problem_on_one_line_is_laid_out(rt: HostRuntime) -> Result<(), Fail> {
+    let text = b"#boardsize 02 2 #init () #depth 0 #blackgoals (black(xmin,02)) #whitegoals";
+    let problem = read_problem(rt.alloc(), text)?;
+    let printed = print_problem(rt.alloc(), &problem)?;
+    let canonical =
+        b"#boardsize 2 2\n#init ()\n#depth 0\n#blackgoals\n(black(xmin,2))\n#whitegoals\n";
+    assert_eq!(rt; printed.as_slice(), canonical.as_slice());
+    Ok(())
+}
+
+#[test]
+fn a_problem_keeps_its_cells_and_its_lines(rt: HostRuntime) -> Result<(), Fail> {
+    let text = b"#boardsize 16 007
+#init (black(1,1)white(2,01) open(16,7))
+#depth 031
+#blackgoals (black(?x,?y) black(?x+01,?y-2) open(3,ymin)) () (white(xmax,ymax))
+#whitegoals
+(white(?x-999999999,?y+999999999)) ()
+";
+    let problem = read_problem(rt.alloc(), text)?;
+    let printed = print_problem(rt.alloc(), &problem)?;
+    let canonical = b"#boardsize 16 7
+#init (black(1,1) white(2,1) open(16,7))
+#depth 31
+#blackgoals
+(black(?x,?y) black(?x+1,?y-2) open(3,ymin))
+()
+(white(xmax,ymax))
+#whitegoals
+(white(?x-999999999,?y+999999999))
+()
+";
+    assert_eq!(rt; printed.as_slice(), canonical.as_slice());
+    Ok(())
+}
