@@ -1,6 +1,6 @@
 -- Small games and formulas, as the definitions compute them.
 use Rattle.std.proofs.Common.{◌≡◌, ℕ, true, false, List, [], ◌∷◌, ◌++◌, refl}
-use Rattle.std.specs.Prelude.{pos, replicate, codes, map}
+use Rattle.std.specs.Prelude.{ℤ, pos, negsuc, replicate, codes, map, Some, None}
 use Rattle.std.specs.Fmt.{digits}
 use Rattle.bddl_model.specs.declared.formula.Lit.{Lit}
 use Rattle.bddl_model.specs.declared.formula.Quant.{Quant}
@@ -14,6 +14,9 @@ use Rattle.bddl_model.specs.declared.game.Atom.{Atom}
 use Rattle.bddl_model.specs.Truth.{form_value}
 use Rattle.bddl_model.specs.FormulaText.{qtext}
 use Rattle.bddl_model.specs.Game.{Action, Game}
+use Rattle.bddl_model.specs.Board.{Board}
+use Rattle.bddl_model.specs.Rectangle.{rect_of}
+use Rattle.bddl_model.specs.Moves.{legal, moves}
 use Rattle.bddl_model.specs.Win.{win}
 use Rattle.bddl_model.specs.Bits.{bits}
 use Rattle.bddl_model.specs.Layout.{layout, blocks, prefix_of, bounds}
@@ -104,6 +107,47 @@ whites_goal_stood_before = refl
 
 the_later_effect_wins : win (record { width = 1; height = 1; black_actions = record { name = codes "a"; before = near marks.Free 0 0 ∷ []; effects = near marks.Black 0 0 ∷ near marks.White 0 0 ∷ [] } ∷ []; white_actions = []; black_lines = (fixed marks.White 1 1 ∷ []) ∷ []; white_lines = [] }) Black (marks.Free ∷ []) 1 ≡ true
 the_later_effect_wins = refl
+
+-- ---- moves
+
+the_open_cells_in_order : moves (occupying 2 2 [] []) (marks.White ∷ marks.Free ∷ marks.Free ∷ marks.Free ∷ []) Black
+    ≡ record { action = 0; x = 2; y = 1 } ∷ record { action = 0; x = 1; y = 2 } ∷ record { action = 0; x = 2; y = 2 } ∷ []
+the_open_cells_in_order = refl
+
+abbrev shifted : Mark → ℤ → ℤ → Atom
+shifted m x y = record { mark = m; x = Rel x; y = Rel y }
+
+anchors_of_two_atoms : rect_of 3 2 (shifted marks.Black (pos 1) (pos 0) ∷ record { mark = marks.White; x = Rel (negsuc 0); y = Abs 1 } ∷ []) ≡ Some (record { x_low = 2; x_high = 2; y_low = 1; y_high = 2 })
+unfolding rect_of
+anchors_of_two_atoms = refl
+
+the_first_column_leads_to_the_last : rect_of 16 16 (shifted marks.Black (pos 15) (pos 0) ∷ []) ≡ Some (record { x_low = 1; x_high = 1; y_low = 1; y_high = 16 })
+unfolding rect_of
+the_first_column_leads_to_the_last = refl
+
+no_column_leads_past_the_last : rect_of 16 16 (shifted marks.Black (pos 16) (pos 0) ∷ []) ≡ None
+unfolding rect_of
+no_column_leads_past_the_last = refl
+
+-- a stone of one mark goes from the anchor to a cell of another mark
+abbrev going : List ℕ → Mark → Mark → ℤ → ℤ → Action
+going name mine from x y = record { name = name; before = shifted mine (pos 0) (pos 0) ∷ shifted from x y ∷ []; effects = shifted marks.Free (pos 0) (pos 0) ∷ shifted mine x y ∷ [] }
+
+abbrev breakthrough : Game
+breakthrough = record {
+  width = 2;
+  height = 4;
+  black_actions = going (codes "forward") marks.Black marks.Free (pos 0) (pos 1) ∷ going (codes "right") marks.Black marks.White (pos 1) (pos 1) ∷ going (codes "left") marks.Black marks.White (negsuc 0) (pos 1) ∷ [];
+  white_actions = going (codes "forward") marks.White marks.Free (pos 0) (negsuc 0) ∷ [];
+  black_lines = (record { mark = marks.Black; x = Rel (pos 0); y = Abs 4 } ∷ []) ∷ [];
+  white_lines = (record { mark = marks.White; x = Rel (pos 0); y = Abs 1 } ∷ []) ∷ [];
+}
+
+black_breaks_through : win breakthrough Black (marks.Free ∷ marks.Free ∷ marks.Free ∷ marks.White ∷ marks.Black ∷ marks.Free ∷ marks.Free ∷ marks.Free ∷ []) 1 ≡ true
+black_breaks_through = refl
+
+no_stone_goes_past_the_last_row : (board : Board) → legal breakthrough board Black (record { action = 0; x = 1; y = 4 }) ≡ false
+no_stone_goes_past_the_last_row board = refl
 
 -- ---- bits and inputs
 

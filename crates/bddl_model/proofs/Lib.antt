@@ -13,3 +13,5 @@ pub mod WrittenForms
 pub mod OneText
 pub mod CircuitForms
 pub mod Growth
+pub mod Rectangle
+pub mod Moves

@@ -7,6 +7,12 @@ use Rattle.bddl_model.specs.declared.game.Mark.TheVariants.{Free, Black, White}
 abbrev pub Board : Type 0
 Board = List Mark
 
+-- a board with its sides
+pub record SizedBoard : Type 0 where
+  pub width : ℕ
+  pub height : ℕ
+  pub marks : Board
+
 -- where the cell in column x and row y of a board of this width stands in the list
 abbrev pub index : ℕ → ℕ → ℕ → ℕ
 index width x y = (y - 1) * width + (x - 1)

@@ -1,5 +1,6 @@
 -- A game on a grid, as both sides' actions and goal lines.
-use Rattle.std.specs.Prelude.{ℕ, List}
+use Rattle.std.specs.Prelude.{ℕ, List, [], ◌∷◌, ◌++◌}
+use Rattle.std.specs.List.{slice_index_or}
 use Rattle.bddl_model.specs.declared.game.Side.{Side}
 use Rattle.bddl_model.specs.declared.game.Side.TheVariants.{Black, White}
 use Rattle.bddl_model.specs.declared.game.Atom.{Atom}
@@ -29,3 +30,19 @@ lines g White = g.white_lines
 abbrev pub opponent : Side → Side
 opponent Black = White
 opponent White = Black
+
+-- an action and a line of a side, by their numbers from 0 on
+abbrev pub action_at : Game → Side → ℕ → Action
+action_at g side n = slice_index_or (actions g side) n (record { name = []; before = []; effects = [] })
+
+abbrev pub line_at : Game → Side → ℕ → List Atom
+line_at g side n = slice_index_or (lines g side) n []
+
+-- the game with one action or one line of a side more
+abbrev pub with_action : Game → Side → Action → Game
+with_action g Black a = record g { black_actions = g.black_actions ++ a ∷ [] }
+with_action g White a = record g { white_actions = g.white_actions ++ a ∷ [] }
+
+abbrev pub with_line : Game → Side → List Atom → Game
+with_line g Black l = record g { black_lines = g.black_lines ++ l ∷ [] }
+with_line g White l = record g { white_lines = g.white_lines ++ l ∷ [] }

@@ -16,6 +16,8 @@ pub mod Qdimacs
 pub mod Game
 pub mod Board
 pub mod Fitting
+pub mod Rectangle
+pub mod Limits
 pub mod Moves
 pub mod Goal
 pub mod Win

@@ -45,3 +45,12 @@ pub struct PlyBits {
     pub sample: Span,
     pub code: Span,
 }
+
+/// Anchors: those of the columns and rows between these, the ends included.
+#[derive(Clone, Copy, Debug, PartialEq, Eq)]
+pub struct Rect {
+    pub x_low: u32,
+    pub x_high: u32,
+    pub y_low: u32,
+    pub y_high: u32,
+}

@@ -17,7 +17,7 @@ mod tokens;
 pub use circuit::{Gate, NodeId, Wire};
 pub use fault::ReadFault;
 pub use formula::{Block, Bound, Kind, Lit, LitList, Quant, Span, Var};
-pub use game::{Atom, Mark, Move, PlyBits, Side, Term};
+pub use game::{Atom, Mark, Move, PlyBits, Rect, Side, Term};
 pub use list::Items;
 pub use memory::NoMemory;
 pub use steps::Steps;

@@ -1,0 +1,11 @@
+pub mod KeptItems
+pub mod Cells
+pub mod Anchors
+pub mod Actions
+pub mod Ranges
+pub mod Rows
+pub mod MoveRanges
+pub mod MoveAnchors
+pub mod MoveLegal
+pub mod MoveRows
+pub mod MoveActions

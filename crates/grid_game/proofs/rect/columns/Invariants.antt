@@ -1,0 +1,10 @@
+use Rattle.std.proofs.Common.{◌≡◌, take}
+use Rattle.bddl_model.specs.Rectangle.{least_anchor, greatest_anchor, columns_of}
+use Rattle.grid_game.proofs.rect.columns.Given as goal
+
+-- the range of the atoms so far
+abbrev pub invariant-loop-atom : goal.invariant-loop-atom
+invariant-loop-atom l = record {
+  low : l.range.low ≡ least_anchor (columns_of (take l.atom-index l.atoms));
+  high : l.range.high ≡ greatest_anchor l.width (columns_of (take l.atom-index l.atoms));
+}

@@ -1,0 +1,112 @@
+// Boards.
+ghost use Rattle.std.specs.Prelude.{◌≡◌, ◌≤◌, ◌<◌, ◌*◌, true, IfOk};
+ghost use Rattle.bddl_model.specs.Board as spec;
+ghost use Rattle.bddl_model.specs.Fitting.{on_side};
+ghost use Rattle.bddl_model.specs.Limits.{IsSide, IsBoard};
+
+use bddl_model::{Mark, NoMemory};
+use std::alloc::Global;
+use std::marker::Model;
+
+/// A board of at most 16 by 16. Contracts see its two sides and its marks, row after row.
+#[derive(Debug, Drop)]
+pub struct Board {
+    width: u32,
+    height: u32,
+    marks: Vec<Mark>,
+}
+
+impl Model for Board {
+    ghost use Rattle.bddl_model.specs.Board.{SizedBoard};
+    ghost use Rattle.bddl_model.specs.Limits.{IsBoard};
+
+    ghost Value = { SizedBoard };
+
+    ghost view = { λ b. record { width = b.width; height = b.height; marks = b.marks.items } };
+
+    ghost invariant = { λ b. IsBoard (record { width = b.width; height = b.height; marks = b.marks.items }) };
+}
+
+// Where a cell stands in the list.
+fn index(width: u32, height: u32, x: u32, y: u32) -> usize
+    requires sides { (width ≤ 16) × (height ≤ 16) }
+    requires column { on_side width x ≡ true }
+    requires row { on_side height y ≡ true }
+    ensures place { result ≡ spec.index width x y }
+    ensures within { result < height * width }
+{
+    ((y - 1) * width + (x - 1)) as usize
+}
+
+impl Board {
+    /// With all cells open.
+    pub fn free(alloc: Global, width: u32, height: u32) -> Result<Board, NoMemory>
+        requires width { IsSide width }
+        requires height { IsSide height }
+        ensures { IfOk result (λ b. b ≡ record { width = width; height = height; marks = spec.open_board width height }) }
+    {
+        let marks = vec![in alloc; Mark::Free; (height * width) as usize]?;
+        Ok(Board {
+            width,
+            height,
+            marks,
+        })
+    }
+
+    /// A law: a board has a mark for each cell.
+    pub fn keeps_the_size(&self)
+        ensures { IsBoard self.now }
+    {
+        let _ = &self.width;
+    }
+
+    /// Writes the mark of a cell.
+    pub fn set(&mut self, x: u32, y: u32, mark: Mark)
+        requires column { on_side self.old.width x ≡ true }
+        requires row { on_side self.old.height y ≡ true }
+        ensures { self.new ≡ record self.old { marks = spec.with_mark self.old.width self.old.marks x y mark } }
+    {
+        let place = index(self.width, self.height, x, y);
+        self.marks[place] = mark;
+    }
+
+    /// The mark of a cell.
+    pub fn at(&self, x: u32, y: u32) -> Mark
+        requires column { on_side self.now.width x ≡ true }
+        requires row { on_side self.now.height y ≡ true }
+        ensures { result ≡ spec.mark_at self.now.width self.now.marks x y }
+    {
+        self.marks[index(self.width, self.height, x, y)]
+    }
+
+    /// A board of its own with the same marks.
+    pub fn copy(&self) -> Result<Board, NoMemory>
+        ensures { IfOk result (λ b. b ≡ self.now) }
+    {
+        Ok(Board {
+            width: self.width,
+            height: self.height,
+            marks: self.marks.clone()?,
+        })
+    }
+}
+
+#[cfg(test)]
+mod tests {
+    use super::*;
+    use std::test::Fail;
+
+    #[test]
+    fn a_copy_is_apart(rt: HostRuntime) -> Result<(), Fail> {
+        let mut board = Board::free(rt.alloc(), 3, 2)?;
+        board.set(3, 1, Mark::Black);
+        let mut copy = board.copy()?;
+        copy.set(3, 1, Mark::White);
+        copy.set(1, 2, Mark::Black);
+        assert_eq!(rt; board.at(3, 1), Mark::Black);
+        assert_eq!(rt; board.at(1, 2), Mark::Free);
+        assert_eq!(rt; copy.at(3, 1), Mark::White);
+        assert_eq!(rt; copy.at(1, 2), Mark::Black);
+        Ok(())
+    }
+}
