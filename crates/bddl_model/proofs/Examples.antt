@@ -8,7 +8,7 @@ use Rattle.bddl_model.specs.declared.formula.Quant.TheVariants.{Exists, All}
 use Rattle.bddl_model.specs.declared.formula.Bound.{Bound}
 use Rattle.bddl_model.specs.declared.game.Mark.{Mark}
 use Rattle.bddl_model.specs.declared.game.Mark.TheVariants as marks
-use Rattle.bddl_model.specs.declared.game.Side.TheVariants.{Black}
+use Rattle.bddl_model.specs.declared.game.Side.TheVariants.{Black, White}
 use Rattle.bddl_model.specs.declared.game.Term.TheVariants.{Rel, Abs}
 use Rattle.bddl_model.specs.declared.game.Atom.{Atom}
 use Rattle.bddl_model.specs.Truth.{form_value}
@@ -23,6 +23,17 @@ use Rattle.bddl_model.specs.Layout.{layout, blocks, prefix_of, bounds}
 use Rattle.bddl_model.specs.FormulaWords.{words_of, last_line, token_of, number, other, quantifier}
 use Rattle.bddl_model.specs.Qdimacs.{form_of}
 use Rattle.bddl_model.specs.Circuit.{Circuit, circuit_clauses}
+use Rattle.bddl_model.specs.declared.texts.TermText.TheVariants as text
+use Rattle.bddl_model.specs.declared.texts.AtomText.{AtomText}
+use Rattle.bddl_model.specs.declared.texts.ActionText.{ActionText}
+use Rattle.bddl_model.specs.declared.texts.InitAtom.{InitAtom}
+use Rattle.bddl_model.specs.declared.texts.DomainText.{DomainText}
+use Rattle.bddl_model.specs.declared.texts.ProblemText.{ProblemText}
+use Rattle.bddl_model.specs.declared.check.Axis.TheVariants.{Width, Height}
+use Rattle.bddl_model.specs.declared.check.CheckFault.TheVariants as fault
+use Rattle.bddl_model.specs.declared.check.Item.TheVariants as item
+use Rattle.bddl_model.specs.declared.check.Part.TheVariants as part
+use Rattle.bddl_model.specs.Check.{setup_fault}
 
 -- ---- formulas
 
@@ -200,3 +211,92 @@ one_gate = record { inputs = 2; gates = record { left = record { node = record {
 
 the_clauses_of_a_gate : circuit_clauses one_gate (record { node = record { 0 = 3 }; negated = false }) ≡ (plus 3 ∷ []) ∷ (minus 4 ∷ plus 1 ∷ []) ∷ (minus 4 ∷ minus 2 ∷ []) ∷ (plus 4 ∷ minus 1 ∷ plus 2 ∷ []) ∷ (plus 4 ∷ []) ∷ []
 the_clauses_of_a_gate = refl
+
+-- ---- what is wrong with a game
+
+abbrev here : Mark → AtomText
+here m = record { mark = m; x = text.Shift (pos 0); y = text.Shift (pos 0) }
+
+abbrev right : ℕ → Mark → AtomText
+right n m = record { mark = m; x = text.Shift (pos n); y = text.Shift (pos 0) }
+
+abbrev column : ℕ → Mark → AtomText
+column n m = record { mark = m; x = text.Number n; y = text.Shift (pos 0) }
+
+abbrev acting : List ℕ → List AtomText → List AtomText → ActionText
+acting name before effects = record { name = name; before = before; effects = effects }
+
+abbrev put : List ℕ → ActionText
+put name = acting name [] (here marks.Black ∷ [])
+
+abbrev blacks : List ActionText → DomainText
+blacks actions = record { black = actions; white = [] }
+
+abbrev of_size : ℕ → ℕ → ProblemText
+of_size w h = record { width = w; height = h; init = []; depth = 0; black = []; white = [] }
+
+abbrev marking : Mark → ℕ → ℕ → InitAtom
+marking m x y = record { mark = m; x = x; y = y }
+
+a_board_of_one_cell_has_no_fault : setup_fault (blacks []) (of_size 1 1) ≡ None
+unfolding setup_fault
+a_board_of_one_cell_has_no_fault = refl
+
+seventeen_columns : setup_fault (blacks []) (of_size 17 1) ≡ Some (fault.SizeOutOfRange Width 17)
+unfolding setup_fault
+seventeen_columns = refl
+
+no_rows : setup_fault (blacks []) (of_size 16 0) ≡ Some (fault.SizeOutOfRange Height 0)
+unfolding setup_fault
+no_rows = refl
+
+thirty_two_plies : setup_fault (blacks []) (record (of_size 1 1) { depth = 32 }) ≡ Some (fault.DepthOutOfRange 32)
+unfolding setup_fault
+thirty_two_plies = refl
+
+-- also where it is marked as open
+a_cell_twice : setup_fault (blacks []) (record (of_size 1 1) { init = marking marks.Black 1 1 ∷ marking marks.Free 1 1 ∷ [] }) ≡ Some (fault.CellTwice (item.Init 2) 1 1)
+unfolding setup_fault
+a_cell_twice = refl
+
+nine_actions : setup_fault (blacks (replicate 9 (put (codes "a")))) (of_size 1 1) ≡ Some (fault.TooManyActions Black 9)
+unfolding setup_fault
+nine_actions = refl
+
+two_actions_of_one_name : setup_fault (blacks (put (codes "a") ∷ put (codes "b") ∷ put (codes "b") ∷ [])) (of_size 1 1) ≡ Some (fault.SameName (item.Action Black 3) 2)
+unfolding setup_fault
+two_actions_of_one_name = refl
+
+-- each side has its own names
+the_other_side_may_use_a_name : setup_fault (record { black = put (codes "a") ∷ []; white = put (codes "a") ∷ [] }) (of_size 1 1) ≡ None
+unfolding setup_fault
+the_other_side_may_use_a_name = refl
+
+preconditions_come_before_effects : setup_fault (blacks (acting (codes "a") (column 3 marks.Free ∷ []) (column 4 marks.Black ∷ []) ∷ [])) (of_size 2 1) ≡ Some (fault.NumberOffBoard (item.Action Black 1) 3)
+unfolding setup_fault
+preconditions_come_before_effects = refl
+
+an_effect_past_each_column : setup_fault (blacks (acting (codes "a") [] (right 16 marks.Black ∷ []) ∷ [])) (of_size 16 16) ≡ Some (fault.NeverOnBoard (item.Action Black 1))
+unfolding setup_fault
+an_effect_past_each_column = refl
+
+an_effect_in_the_last_column : setup_fault (blacks (acting (codes "a") [] (right 15 marks.Black ∷ []) ∷ [])) (of_size 16 16) ≡ None
+unfolding setup_fault
+an_effect_in_the_last_column = refl
+
+five_effects : setup_fault (blacks (acting (codes "a") [] (replicate 5 (here marks.Black)) ∷ [])) (of_size 1 1) ≡ Some (fault.TooManyAtoms (item.Action Black 1) part.Effects 5)
+unfolding setup_fault
+five_effects = refl
+
+-- the depth comes before the cells, and White's lines come last
+the_first_of_three_faults : setup_fault (blacks []) (record { width = 1; height = 1; init = marking marks.Black 2 1 ∷ []; depth = 32; black = []; white = (column 2 marks.White ∷ []) ∷ [] }) ≡ Some (fault.DepthOutOfRange 32)
+unfolding setup_fault
+the_first_of_three_faults = refl
+
+cells_come_before_lines : setup_fault (blacks []) (record { width = 1; height = 1; init = marking marks.Black 2 1 ∷ []; depth = 31; black = []; white = (column 2 marks.White ∷ []) ∷ [] }) ≡ Some (fault.NumberOffBoard (item.Init 1) 2)
+unfolding setup_fault
+cells_come_before_lines = refl
+
+a_line_off_the_board : setup_fault (blacks []) (record { width = 1; height = 1; init = []; depth = 31; black = (here marks.Black ∷ []) ∷ []; white = [] ∷ (column 2 marks.White ∷ []) ∷ [] }) ≡ Some (fault.NumberOffBoard (item.Line White 2) 2)
+unfolding setup_fault
+a_line_off_the_board = refl

@@ -23,6 +23,7 @@ pub mod Goal
 pub mod Win
 pub mod Setup
 pub mod Start
+pub mod Check
 pub mod Bits
 pub mod Layout
 pub mod Canonical

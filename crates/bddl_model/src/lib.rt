@@ -4,6 +4,7 @@
 //! force a goal. `docs/DEFINITIONS.md` leads through the rest.
 #![tactic(auto)]
 
+mod check;
 mod circuit;
 mod fault;
 mod formula;
@@ -14,6 +15,7 @@ mod steps;
 mod texts;
 mod tokens;
 
+pub use check::{Axis, CheckFault, Item, Part};
 pub use circuit::{Gate, NodeId, Wire};
 pub use fault::ReadFault;
 pub use formula::{Block, Bound, Kind, Lit, LitList, Quant, Span, Var};

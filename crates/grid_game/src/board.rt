@@ -60,6 +60,20 @@ impl Board {
         let _ = &self.width;
     }
 
+    pub fn width(&self) -> u32
+        ensures value { result ≡ self.now.width }
+        ensures limit { IsSide result }
+    {
+        self.width
+    }
+
+    pub fn height(&self) -> u32
+        ensures value { result ≡ self.now.height }
+        ensures limit { IsSide result }
+    {
+        self.height
+    }
+
     /// Writes the mark of a cell.
     pub fn set(&mut self, x: u32, y: u32, mark: Mark)
         requires column { on_side self.old.width x ≡ true }

@@ -1,0 +1,7 @@
+pub mod Faults
+pub mod AnchorFound
+pub mod ActionFaults
+pub mod AddedItems
+pub mod CellCounts
+pub mod CellFaults
+pub mod SetupFaults

@@ -1,0 +1,137 @@
+// A side's actions.
+ghost use Rattle.std.specs.Prelude.{◌≡◌, ◌≤◌, ◌<◌, ◌+◌, [], ◌∷◌, length, map, IfOk, OnOk};
+ghost use Rattle.bddl_model.specs.Check.{actions_fault, action_fault, same_name, named_at};
+ghost use Rattle.bddl_model.specs.Game as spec;
+ghost use Rattle.bddl_model.specs.Setup.{action_of};
+ghost use Rattle.offset_check.specs.Checks.{Checks, with_actions, AreNamed};
+
+use crate::items::{check_fits, check_length};
+use crate::terms::{atoms_of, check_atoms};
+use bddl_model::{ActionText, CheckFault, Item, Part, Side};
+use grid_game::Game;
+use std::alloc::Global;
+
+// No earlier action has the name.
+fn check_name(item: Item, earlier: &[ActionText], name: &[u8]) -> Result<(), CheckFault>
+    requires { length earlier.now ≤ 8 }
+    ensures { Checks (same_name item (named_at 1 earlier.now name.now)) result }
+{
+    for (i, other) in earlier.iter().enumerate() {
+        if other.name.as_slice() == name {
+            return Err(CheckFault::SameName {
+                item,
+                earlier: i as u32 + 1,
+            });
+        }
+    }
+    Ok(())
+}
+
+// Adds an action that has no fault.
+fn add_action(
+    alloc: Global,
+    game: &mut Game,
+    side: Side,
+    earlier: &[ActionText],
+    action: &ActionText,
+) -> Result<(), CheckFault>
+    requires few { length earlier.now < 8 }
+    requires so_many { length (spec.actions game.old side) ≡ length earlier.now }
+    requires named { (1 ≤ length action.now.name) × (length action.now.name ≤ 32) }
+    ensures checks { Checks (action_fault game.old.width game.old.height side earlier.now action.now) result }
+    ensures added { OnOk result (game.new ≡ spec.with_action game.old side (action_of game.old.width game.old.height action.now)) }
+{
+    let item = Item::Action {
+        side,
+        number: earlier.len() as u32 + 1,
+    };
+    let (width, height) = (game.width(), game.height());
+    check_length(item, Part::Before, 8, action.before.as_slice())?;
+    check_length(item, Part::Effects, 4, action.effects.as_slice())?;
+    check_name(item, earlier, action.name.as_slice())?;
+    check_atoms(item, width, height, action.before.as_slice())?;
+    check_atoms(item, width, height, action.effects.as_slice())?;
+    let before = atoms_of(alloc, width, height, action.before.as_slice())?;
+    let effects = atoms_of(alloc, width, height, action.effects.as_slice())?;
+    check_fits(item, width, height, &before, &effects)?;
+    game.add_action(side, action.name.as_slice(), &before, &effects)?;
+    Ok(())
+}
+
+/// Adds the actions of a side, which has none, if there is no fault.
+pub fn add_actions(
+    alloc: Global,
+    game: &mut Game,
+    side: Side,
+    actions: &[ActionText],
+) -> Result<(), CheckFault>
+    requires named { AreNamed actions.now }
+    requires none { spec.actions game.old side ≡ [] }
+    ensures checks { Checks (actions_fault game.old.width game.old.height side actions.now) result }
+    ensures added { OnOk result (game.new ≡ with_actions game.old side (map (action_of game.old.width game.old.height) actions.now)) }
+{
+    let found = actions.len();
+    if found > 8 {
+        return Err(CheckFault::TooManyActions {
+            side,
+            found: found as u64,
+        });
+    }
+    for (i, action) in actions.iter().enumerate() {
+        add_action(alloc, game, side, &actions[..i], action)?;
+    }
+    Ok(())
+}
+
+#[cfg(test)]
+mod tests {
+    use super::*;
+    use bddl_model::{AtomText, Items, Mark, NoMemory, TermText};
+    use std::test::Fail;
+
+    // An action whose name is this letter, and which marks the anchor.
+    fn marks(alloc: Global, letter: u8) -> Result<ActionText, NoMemory>
+        ensures { IfOk result (λ a. a.name ≡ letter ∷ []) }
+    {
+        let mut action = ActionText {
+            name: Items::new(alloc),
+            before: Items::new(alloc),
+            effects: Items::new(alloc),
+        };
+        action.name.push(letter)?;
+        action.effects.push(AtomText {
+            mark: Mark::Black,
+            x: TermText::Shift(0),
+            y: TermText::Shift(0),
+        })?;
+        Ok(action)
+    }
+
+    #[test]
+    fn actions_are_added_in_order(rt: HostRuntime) -> Result<(), Fail> {
+        let mut game = Game::begin(rt.alloc(), 2, 2);
+        let actions = [marks(rt.alloc(), b'a')?, marks(rt.alloc(), b'b')?];
+        add_actions(rt.alloc(), &mut game, Side::White, &actions)?;
+        assert_eq!(rt; game.actions(Side::White), 2);
+        Ok(())
+    }
+
+    #[test]
+    fn a_name_that_stands_twice_is_told(rt: HostRuntime) -> Result<(), Fail> {
+        let mut game = Game::begin(rt.alloc(), 2, 2);
+        let actions = [
+            marks(rt.alloc(), b'a')?,
+            marks(rt.alloc(), b'b')?,
+            marks(rt.alloc(), b'b')?,
+        ];
+        let item = Item::Action {
+            side: Side::Black,
+            number: 3,
+        };
+        assert_eq!(rt;
+            add_actions(rt.alloc(), &mut game, Side::Black, &actions),
+            Err(CheckFault::SameName { item, earlier: 2 })
+        );
+        Ok(())
+    }
+}
