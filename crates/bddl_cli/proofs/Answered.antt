@@ -1,6 +1,7 @@
 -- From what a request wrote to what the whole call answers.
 use Rattle.std.proofs.Common.{ℕ, false, ◌≡◌, ◌≢◌, List, [], Bool, true, Option, None, Some, Ok, ◌⊎◌, inl, inr, refl, sym, ap, subst, ◌∙◌}
 use Rattle.std.specs.Prelude.{IfSome, ◌==◌}
+use Rattle.std.proofs.lemmas.List.{append-nil}
 use Rattle.bddl_model.specs.Files.{Files}
 use Rattle.bddl_model.specs.declared.fault.ReadFault.{ReadFault}
 use Rattle.bddl_model.specs.Tokens.{Lexeme}
@@ -8,7 +9,7 @@ use Rattle.bddl_model.specs.Grammar.{domain, problem}
 use Rattle.bddl_model.specs.Canonical.{domain_text, problem_text}
 use Rattle.bddl_model.specs.Notes.{domain_fault, problem_fault}
 use Rattle.bddl_model.specs.Request.{Request, compile, fmt_domain, fmt_problem}
-use Rattle.bddl_model.specs.Outcome.{End, refused, done, RequestEnds, CompileEnds, domain_fails, problem_fails, domain_not_built, problem_not_built, compiles, FormatEnds, fails, prints, FormatDomainEnds, FormatProblemEnds, Formats, FileThen, IsResult, Compiles}
+use Rattle.bddl_model.specs.Outcome.{End, refused, done, RequestEnds, CompileEnds, domain_fails, problem_fails, check_fails, domain_not_built, problem_not_built, compiles, FormatEnds, fails, prints, FormatDomainEnds, FormatProblemEnds, Formats, FileThen, IsResult, Compiles}
 use Rattle.std.specs.FinMap.{get}
 use Rattle.io_edge.specs.Outside.{with_bytes, WithFront}
 use Rattle.io_edge.proofs.Fronts.{with_bytes_none}
@@ -20,6 +21,7 @@ out_of_refusal : (r : Refusal) → (reported r).out ≡ []
 out_of_refusal refusal.NoRequest = refl
 out_of_refusal (refusal.TooLong word) = refl
 out_of_refusal (refusal.Grammar text place trouble) = refl
+out_of_refusal (refusal.Check f) = refl
 out_of_refusal refusal.DomainNotBuilt = refl
 out_of_refusal refusal.ProblemNotBuilt = refl
 out_of_refusal (refusal.ReadFault word) = refl
@@ -38,22 +40,39 @@ told_refusal request r out_old out_new note_old note_new status met same (inl t)
 told_refusal request r out_old out_new note_old note_new status met same (inr (inl e, f)) four five = absurd (four e)
 told_refusal request r out_old out_new note_old note_new status met same (inr (inr e, f)) four five = absurd (five e)
 
+refused_answers : (ends : End → Type 0) (r : Refusal) (out_old out_new note_old note_new : Option (List ℕ)) (status : ℕ) → (out_new ≡ out_old) × ends (reported r) → Tells (reported r) note_old note_new status
+    → Answers ends out_old out_new note_old note_new status
+refused_answers ends r out_old out_new note_old note_new status (same, end) (inl (is, told)) = record {
+  whole = λ four five. (reported r, end, (is, nothing_written r out_old out_new same, told));
+  cut = λ h. inr (reported r, end, front_of_nothing out_old out_new (reported r).out same, ((reported r).note, [], append-nil (reported r).note, told));
+}
+refused_answers ends r out_old out_new note_old note_new status (same, end) (inr (short, front)) = record {
+  whole = λ four five. absurd (elim short [ inl h ↦ four h | inr h ↦ five h ]);
+  cut = λ h. inr (reported r, end, front_of_nothing out_old out_new (reported r).out same, front);
+}
+
+pub refused_of_files : (faulty : Bool) (held : Option Files) (request : Option Request) (r : Refusal) (out_old out_new note_old note_new : Option (List ℕ)) (status : ℕ)
+    → IfSome held (λ files. (out_new ≡ out_old) × RequestEnds faulty files request (reported r)) → Tells (reported r) note_old note_new status
+    → IfSome held (λ files. Answers (RequestEnds faulty files request) out_old out_new note_old note_new status)
+refused_of_files faulty None request r out_old out_new note_old note_new status h told = tt
+refused_of_files faulty (Some files) request r out_old out_new note_old note_new status h told = refused_answers (RequestEnds faulty files request) r out_old out_new note_old note_new status h told
+
 -- ---- a call that was cut short while it wrote to out
 
-cut_answers : (ends : End → Type 0) (out_old out_new note : Option (List ℕ)) (status : ℕ) → (status ≡ 4) ⊎ (status ≡ 5) → CutShort ends out_old out_new → Answers ends out_old out_new note note status
-cut_answers ends out_old out_new note status short (inl same) = record {
+cut_answers : (ends : End → Type 0) (out_old out_new noted : Option (List ℕ)) (status : ℕ) → (status ≡ 4) ⊎ (status ≡ 5) → CutShort ends out_old out_new → Answers ends out_old out_new noted noted status
+cut_answers ends out_old out_new noted status short (inl same) = record {
   whole = λ four five. absurd (elim short [ inl h ↦ four h | inr h ↦ five h ]);
   cut = λ h. inl (same, refl);
 }
-cut_answers ends out_old out_new note status short (inr (end, e, f)) = record {
+cut_answers ends out_old out_new noted status short (inr (end, e, f)) = record {
   whole = λ four five. absurd (elim short [ inl h ↦ four h | inr h ↦ five h ]);
-  cut = λ h. inr (end, e, f, front_of_nothing note note end.note refl);
+  cut = λ h. inr (end, e, f, front_of_nothing noted noted end.note refl);
 }
 
-pub cut_of_files : (faulty : Bool) (held : Option Files) (request : Option Request) (out_old out_new note : Option (List ℕ)) (status : ℕ) → (status ≡ 4) ⊎ (status ≡ 5)
-    → IfSome held (λ files. CutShort (RequestEnds faulty files request) out_old out_new) → IfSome held (λ files. Answers (RequestEnds faulty files request) out_old out_new note note status)
-cut_of_files faulty None request out_old out_new note status short h = tt
-cut_of_files faulty (Some files) request out_old out_new note status short h = cut_answers (RequestEnds faulty files request) out_old out_new note status short h
+pub cut_of_files : (faulty : Bool) (held : Option Files) (request : Option Request) (out_old out_new noted : Option (List ℕ)) (status : ℕ) → (status ≡ 4) ⊎ (status ≡ 5)
+    → IfSome held (λ files. CutShort (RequestEnds faulty files request) out_old out_new) → IfSome held (λ files. Answers (RequestEnds faulty files request) out_old out_new noted noted status)
+cut_of_files faulty None request out_old out_new noted status short h = tt
+cut_of_files faulty (Some files) request out_old out_new noted status short h = cut_answers (RequestEnds faulty files request) out_old out_new noted status short h
 
 -- ---- a request that was carried out
 
@@ -73,8 +92,9 @@ file_goes_on word (Some bytes) next text (inr (inr h)) = absurd (not_refused tex
 compiled : (dom prob text : List ℕ) → CompileEnds dom prob (done text) → Compiles dom prob text
 compiled dom prob text (domain_fails f h e) = absurd (not_refused text 2 _ refl e)
 compiled dom prob text (problem_fails d f r h e) = absurd (not_refused text 2 _ refl e)
-compiled dom prob text (domain_not_built d p r q h e) = absurd (not_refused text 2 _ refl e)
-compiled dom prob text (problem_not_built p r q h e) = absurd (not_refused text 2 _ refl e)
+compiled dom prob text (check_fails d p f s e) = absurd (not_refused text 2 _ refl e)
+compiled dom prob text (domain_not_built d p s t h e) = absurd (not_refused text 2 _ refl e)
+compiled dom prob text (problem_not_built p s t h e) = absurd (not_refused text 2 _ refl e)
 compiled dom prob text (compiles other c e) = subst (Compiles dom prob) (sym (ap (λ (x : End). x.out) e)) c
 
 formatted : {A : Type 0} (grammar : List Lexeme → A → Type 0) (note : List ℕ → ReadFault → List ℕ) (canonical : A → List ℕ) (bytes text : List ℕ) → FormatEnds grammar note canonical bytes (done text) → Formats grammar canonical bytes text

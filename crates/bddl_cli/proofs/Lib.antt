@@ -1,9 +1,9 @@
 pub mod FormTexts
 pub mod Added
 pub mod Files
+pub mod Named
 pub mod Built
 pub mod Requested
 pub mod Answered
-pub mod StartProblems
 pub mod TextFaults
 pub mod Written

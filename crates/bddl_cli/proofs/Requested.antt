@@ -1,10 +1,11 @@
 -- From the files that were read to the request.
 use Rattle.std.proofs.Common.{ℕ, ◌≡◌, ◌≤◌, Bool, true, false, List, length, Option, None, Some, Result, Ok, Err, inl, inr, refl, sym, ap, subst}
-use Rattle.std.specs.Prelude.{IfSome, IsTrue}
+use Rattle.std.specs.Prelude.{IfSome, IsTrue, Contains}
 use Rattle.std.specs.FinMap.{get}
 use Rattle.bddl_model.specs.Files.{Files, file_at}
+use Rattle.bddl_model.specs.Request.{Request, file_words}
 use Rattle.bddl_model.specs.Outcome.{End, file_limit, done, FileThen}
-use Rattle.bddl_cli.specs.Ends.{Writes, IsFile, IsReadEnd, is_read_fault, reported}
+use Rattle.bddl_cli.specs.Ends.{Writes, IsFile, IsReadEnd, MayMeet, StopsAsMayBe, is_read_fault, reported}
 use Rattle.bddl_cli.specs.declared.refusal.Refusal.{Refusal}
 use Rattle.bddl_cli.specs.declared.refusal.Refusal.TheVariants as refusal
 use Rattle.bddl_cli.specs.declared.refusal.Stop.{Stop}
@@ -74,3 +75,10 @@ file_stops faulty None word name next s old h may = tt
 file_stops faulty (Some files) word name next s old h may =
     writes_stop (FileThen faulty word (get files name) (next files)) s old (Some files) word name h
     (λ r e. stop_ends faulty files word name (next files) r (subst (IsReadEnd (Some files) word name) e h) (subst (MayFail faulty (Some files) name) e may))
+
+-- a named file that can't be read stops a request that names it
+pub read_may_stop : (held : Option Files) (word : ℕ) (name : List ℕ) (s : Stop) (request : Request) → IsReadEnd held word name s → Contains (file_words (Some request)) word → StopsAsMayBe (Some request) s
+read_may_stop held word name (stop.Refused r) request (inl is) named = subst (MayMeet (Some request)) (sym is) named
+read_may_stop held word name (stop.Refused r) request (inr is) named = subst (MayMeet (Some request)) (sym is.0) named
+read_may_stop held word name stop.WriteFault request h named = tt
+read_may_stop held word name stop.NoMemory request h named = tt

@@ -4,6 +4,8 @@ use Rattle.std.specs.FinMap.{get}
 use Rattle.bddl_model.specs.declared.tokens.LexFault.TheVariants as lex
 use Rattle.bddl_model.specs.declared.fault.ReadFault.{ReadFault}
 use Rattle.bddl_model.specs.declared.fault.ReadFault.TheVariants as fault
+use Rattle.bddl_model.specs.declared.check.CheckFault.{CheckFault}
+use Rattle.bddl_model.specs.declared.check.CheckFault.TheVariants as check
 use Rattle.bddl_model.specs.Tokens.{Lexeme}
 use Rattle.bddl_model.specs.Reading.{place_at, ReadFails}
 use Rattle.bddl_model.specs.Files.{Files}
@@ -26,6 +28,10 @@ abbrev pub stop_of_sink : SinkEnd → Stop
 stop_of_sink sink.Failed = stop.WriteFault
 stop_of_sink sink.NoMemory = stop.NoMemory
 
+abbrev pub stop_of_check : CheckFault → Stop
+stop_of_check check.NoMemory = stop.NoMemory
+stop_of_check fault = stop.Refused (refusal.Check fault)
+
 -- ---- refusals and their notes
 
 abbrev pub text_name : GameText → List ℕ
@@ -45,6 +51,7 @@ reported refusal.NoRequest = refused 1 notes.no_such_request
 reported (refusal.ReadFault word) = refused 3 (notes.read_fault word)
 reported (refusal.TooLong word) = refused 2 (notes.too_long word file_limit)
 reported (refusal.Grammar text place what) = refused 2 (notes.place_note (text_name text) place (words_of what))
+reported (refusal.Check f) = refused 2 (notes.check_note f)
 reported refusal.DomainNotBuilt = refused 2 notes.domain_not_built
 reported refusal.ProblemNotBuilt = refused 2 notes.problem_not_built
 
@@ -126,6 +133,7 @@ MayMeet None r = r ≡ refusal.NoRequest
 MayMeet (Some request) refusal.NoRequest = ⊥
 MayMeet (Some request) (refusal.ReadFault word) = Contains (file_words (Some request)) word
 MayMeet (Some request) (refusal.TooLong word) = Contains (file_words (Some request)) word
+MayMeet (Some request) (refusal.Check f) = f ≢ check.NoMemory
 MayMeet (Some request) r = Unit {0}
 
 abbrev pub StopsAsMayBe : Option Request → Stop → Type 0

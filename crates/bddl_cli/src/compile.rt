@@ -1,8 +1,8 @@
 // The request `compile`.
-ghost use Rattle.std.specs.Prelude.{◌≡◌, ◌↔◌, ◌≤◌, ℕ, List, Some, true, false, IfSome, IfOk, IfErr, IsTrue, MatchOption, length};
-ghost use Rattle.bddl_model.specs.Outcome.{RequestEnds, CompileEnds, IsBuilt, no_actions};
+ghost use Rattle.std.specs.Prelude.{◌≡◌, ◌↔◌, ◌≤◌, ℕ, List, Some, true, false, IfSome, IfOk, IfErr, length};
+ghost use Rattle.bddl_model.specs.Outcome.{RequestEnds, CompileEnds, IsBuilt};
 ghost use Rattle.bddl_model.specs.Request as spec;
-ghost use Rattle.bddl_model.specs.Start.{IsStartProblem};
+ghost use Rattle.bddl_model.specs.Setup.{Setup};
 ghost use Rattle.io_edge.specs.Outside.{Counts};
 ghost use Rattle.bddl_cli.specs.Ends.{Writes, StopsAt, StopsAsMayBe, KeepsOut, is_read_fault, is_write_fault};
 
@@ -10,10 +10,11 @@ use crate::form_text::write_form;
 use crate::game_texts::{domain_tree, problem_tree};
 use crate::read::read_named;
 use crate::refusal::{Refusal, Stop};
-use crate::start_problem::is_start_problem;
-use bddl_model::{DomainText, ProblemText};
+use crate::start_problem::{has_no_actions, is_start_problem};
+use bddl_model::ProblemText;
 use io_edge::{Shelf, Sink};
 use lifted_encode::start_form;
+use offset_check::check;
 use std::alloc::Global;
 
 /// Compiles the problem of two named files, and writes the formula.
@@ -59,11 +60,11 @@ fn write_compiled<K: Sink>(
     Ok(())
 }
 
-// The problem of two texts, where it is one that is built.
+// The problem of two texts, where they state a game that is built.
 fn built_problem(alloc: Global, domain: &[u8], problem: &[u8]) -> Result<ProblemText, Stop>
     requires domain_short { length domain.now ≤ 1048576 }
     requires problem_short { length problem.now ≤ 1048576 }
-    ensures found { IfOk result (IsBuilt domain.now problem.now) }
+    ensures found { IfOk result (λ prob. (s : Setup) × IsBuilt domain.now problem.now prob s) }
     ensures stop { IfErr result (StopsAt (CompileEnds domain.now problem.now)) }
     ensures stops { (d p : List ℕ) → IfErr result (StopsAsMayBe (Some (spec.compile d p))) }
     ensures no_write { is_write_fault result ≡ false }
@@ -71,27 +72,12 @@ fn built_problem(alloc: Global, domain: &[u8], problem: &[u8]) -> Result<Problem
 {
     let domain = domain_tree(alloc, domain)?;
     let problem = problem_tree(alloc, problem)?;
+    check(alloc, &domain, &problem)?;
     if !has_no_actions(&domain) {
         return Err(Stop::Refused(Refusal::DomainNotBuilt));
     }
-    match if_start_problem(problem) {
-        Some(tree) => Ok(tree),
-        None => Err(Stop::Refused(Refusal::ProblemNotBuilt)),
+    if !is_start_problem(&problem) {
+        return Err(Stop::Refused(Refusal::ProblemNotBuilt));
     }
-}
-
-fn has_no_actions(tree: &DomainText) -> bool
-    ensures { IsTrue result ↔ (tree.now ≡ no_actions) }
-{
-    tree.black.as_slice().is_empty() && tree.white.as_slice().is_empty()
-}
-
-fn if_start_problem(tree: ProblemText) -> Option<ProblemText>
-    ensures { MatchOption result (IsStartProblem tree → ⊥) (λ kept. (kept ≡ tree) × IsStartProblem kept) }
-{
-    if is_start_problem(&tree) {
-        Some(tree)
-    } else {
-        None
-    }
+    Ok(problem)
 }

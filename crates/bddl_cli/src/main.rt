@@ -8,6 +8,7 @@ mod compile;
 mod form_text;
 mod format;
 mod game_texts;
+mod notes;
 mod read;
 mod refusal;
 mod request;

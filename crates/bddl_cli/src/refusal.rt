@@ -1,8 +1,8 @@
 ghost use Rattle.std.specs.Prelude.{◌≡◌};
-ghost use Rattle.bddl_cli.specs.Ends.{stop_of_sink};
+ghost use Rattle.bddl_cli.specs.Ends.{stop_of_sink, stop_of_check};
 ghost use Rattle.bddl_cli.specs.declared.refusal.Stop.TheVariants.{NoMemory as out_of_memory};
 
-use bddl_model::{NoMemory, Place};
+use bddl_model::{CheckFault, NoMemory, Place};
 use io_edge::SinkEnd;
 
 /// The two texts of a game.
@@ -35,6 +35,8 @@ pub enum Refusal {
         place: Place,
         trouble: Trouble,
     },
+    /// The first fault of the game. It isn't want of memory.
+    Check(CheckFault),
     DomainNotBuilt,
     ProblemNotBuilt,
 }
@@ -63,5 +65,16 @@ impl From<NoMemory> for Stop {
 
     fn from(_: NoMemory) -> Self {
         Stop::NoMemory
+    }
+}
+
+impl From<CheckFault> for Stop {
+    ghost from_gives = { λ fault stop. stop ≡ stop_of_check fault };
+
+    fn from(fault: CheckFault) -> Self {
+        match fault {
+            CheckFault::NoMemory => Stop::NoMemory,
+            found => Stop::Refused(Refusal::Check(found)),
+        }
     }
 }

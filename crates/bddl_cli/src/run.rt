@@ -1,19 +1,17 @@
 // The top call.
-ghost use Rattle.std.specs.Prelude.{◌≡◌, ◌==◌, ◌≢◌, ◌<◌, ◌≤◌, ◌⊎◌, ◌↔◌, List, ℕ, None, Some, true, false, IfOk, IfErr, IfSome, OnErr, map, string_bytes};
+ghost use Rattle.std.specs.Prelude.{◌≡◌, ◌==◌, ◌≢◌, ◌<◌, ◌≤◌, ◌⊎◌, ◌↔◌, List, ℕ, None, Some, true, false, IfErr, IfSome, OnErr, map};
 ghost use Rattle.bddl_model.specs.Outcome.{End, RequestEnds, IsResult};
 ghost use Rattle.bddl_model.specs.Request.{request_of};
 ghost use Rattle.io_edge.specs.Outside.{Counts, Rose, with_bytes};
-ghost use Rattle.bddl_cli.specs.Ends.{Writes, Tells, Answers, EndsAs, MayMeet, StopsAsMayBe, KeepsOut, is_read_fault, is_write_fault, reported, text_name, words_of};
-ghost use Rattle.bddl_model.specs.Notes.{place_note};
+ghost use Rattle.bddl_cli.specs.Ends.{Writes, Tells, Answers, EndsAs, MayMeet, StopsAsMayBe, KeepsOut, is_read_fault, is_write_fault, reported};
 
 use crate::compile::compile;
 use crate::format::{format_domain, format_problem};
-use crate::read::FILE_LIMIT;
-use crate::refusal::{GameText, Refusal, Stop, Trouble};
+use crate::notes::{status_of, text_of};
+use crate::refusal::{Refusal, Stop};
 use crate::request::{Request, read_request};
-use bddl_model::Place;
 use io_edge::{Shelf, Sink, SinkEnd, put_text};
-use std::alloc::{AllocError, Global};
+use std::alloc::Global;
 
 /// Carries out the request of the words, and answers the exit status: 0 where it was carried out,
 /// 1 where the words are no request, 2 where a file is refused, 3 where a named file could not be
@@ -85,67 +83,6 @@ fn carry_out<S: Shelf, K: Sink>(
         Some(Request::Compile { domain, problem }) => compile(alloc, domain, problem, shelf, out),
         Some(Request::FormatDomain { domain }) => format_domain(alloc, domain, shelf, out),
         Some(Request::FormatProblem { problem }) => format_problem(alloc, problem, shelf, out),
-    }
-}
-
-fn status_of(refusal: Refusal) -> u8
-    ensures { result ≡ (reported refusal).status }
-{
-    match refusal {
-        Refusal::NoRequest => 1,
-        Refusal::TooLong(_)
-        | Refusal::Grammar { .. }
-        | Refusal::DomainNotBuilt
-        | Refusal::ProblemNotBuilt => 2,
-        Refusal::ReadFault(_) => 3,
-    }
-}
-
-// The line that tells a refusal.
-fn text_of(alloc: Global, refusal: Refusal) -> Result<String, AllocError>
-    ensures { IfOk result (λ text. string_bytes text ≡ (reported refusal).note) }
-{
-    match refusal {
-        Refusal::NoRequest => format!(in alloc; "no such request\n"),
-        Refusal::ReadFault(word) => format!(in alloc; "word {word}: read fault\n"),
-        Refusal::TooLong(word) => format!(in alloc;
-            "word {word}: longer than {FILE_LIMIT} bytes\n"
-        ),
-        Refusal::Grammar {
-            text,
-            place,
-            trouble,
-        } => place_text(alloc, text, place, words_of(trouble)),
-        Refusal::DomainNotBuilt => format!(in alloc; "domain: not built\n"),
-        Refusal::ProblemNotBuilt => format!(in alloc; "problem: not built\n"),
-    }
-}
-
-fn place_text(
-    alloc: Global,
-    text: GameText,
-    place: Place,
-    words: &str,
-) -> Result<String, AllocError>
-    ensures { IfOk result (λ line. string_bytes line ≡ place_note (text_name text) place words.now) }
-{
-    let line = place.line;
-    let column = place.column;
-    match text {
-        GameText::Domain => format!(in alloc; "domain:{line}:{column}: {words}\n"),
-        GameText::Problem => format!(in alloc; "problem:{line}:{column}: {words}\n"),
-    }
-}
-
-fn words_of(trouble: Trouble) -> &'static str
-    ensures { result.now ≡ words_of trouble }
-{
-    match trouble {
-        Trouble::BadByte => "bad byte",
-        Trouble::NameTooLong => "name too long",
-        Trouble::NumberTooLong => "number too long",
-        Trouble::UnexpectedWord => "unexpected word",
-        Trouble::EndsEarly => "text ends early",
     }
 }
 

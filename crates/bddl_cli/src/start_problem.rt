@@ -1,103 +1,41 @@
-// Which problems are compiled: those of a start board alone, with goal lines in plain numbers.
-ghost use Rattle.std.specs.Prelude.{◌≡◌, ◌↔◌, ◌&&◌, IsTrue, nat_le, length};
-ghost use Rattle.std.specs.List.{list_all, list_any};
-ghost use Rattle.bddl_model.specs.Fitting.{on_side};
-ghost use Rattle.bddl_model.specs.Start.{IsStartProblem, cell_on_board, same_cell, cells_apart, number_on_side, names_cell, line_fits};
+// Which games are built: those of a start board alone, with goal lines in plain numbers.
+ghost use Rattle.std.specs.Prelude.{◌≡◌, ◌↔◌, IsTrue};
+ghost use Rattle.std.specs.List.{list_all};
+ghost use Rattle.bddl_model.specs.Outcome.{no_actions};
+ghost use Rattle.bddl_model.specs.Start.{IsStartProblem, in_numbers, is_number};
 
-use bddl_model::{AtomList, AtomText, InitAtom, ProblemText, TermText};
+use bddl_model::{AtomList, AtomText, DomainText, ProblemText, TermText};
 
-const LONGEST_SIDE: u32 = 16;
-
-const MOST_LINES: usize = 256;
-
-const MOST_ATOMS: usize = 16;
-
-/// Whether a problem is one that is compiled.
-pub fn is_start_problem(tree: &ProblemText) -> bool
-    ensures { IsTrue result ↔ IsStartProblem tree.now }
+/// Whether a domain has no action.
+pub fn has_no_actions(tree: &DomainText) -> bool
+    ensures { IsTrue result ↔ (tree.now ≡ no_actions) }
 {
-    is_on_side(LONGEST_SIDE, tree.width)
-        && is_on_side(LONGEST_SIDE, tree.height)
-        && tree.depth == 0
-        && cells_fit(tree.width, tree.height, tree.init.as_slice())
-        && lines_fit(tree.width, tree.height, tree.black.as_slice())
-        && tree.white.as_slice().is_empty()
+    tree.black.as_slice().is_empty() && tree.white.as_slice().is_empty()
 }
 
-fn is_on_side(side: u32, n: u32) -> bool
-    ensures { result ≡ on_side side n }
+fn is_number(term: TermText) -> bool
+    ensures { result ≡ is_number term }
 {
-    1 <= n && n <= side
+    matches!(term, TermText::Number(_))
 }
 
-// All lie on the board, and no cell is named twice. The first that fails ends the search, so that
-// no more than a board's cells are compared.
-fn cells_fit(width: u32, height: u32, atoms: &[InitAtom]) -> bool
-    ensures { result ≡ (list_all (cell_on_board width height) atoms.now && cells_apart atoms.now) }
-{
-    for (i, atom) in atoms.iter().enumerate() {
-        if !cell_on_board(width, height, *atom) {
-            return false;
-        }
-        if is_named(&atoms[..i], *atom) {
-            return false;
-        }
-    }
-    true
-}
-
-fn cell_on_board(width: u32, height: u32, atom: InitAtom) -> bool
-    ensures { result ≡ cell_on_board width height atom }
-{
-    is_on_side(width, atom.x) && is_on_side(height, atom.y)
-}
-
-// One of the atoms names this one's cell.
-fn is_named(atoms: &[InitAtom], atom: InitAtom) -> bool
-    ensures { result ≡ list_any (same_cell atom) atoms.now }
+fn in_numbers(atoms: &[AtomText]) -> bool
+    ensures { result ≡ list_all in_numbers atoms.now }
 {
     atoms
         .iter()
-        .any(|other| atom.x == other.x && atom.y == other.y)
+        .all(|atom| is_number(atom.x) && is_number(atom.y))
 }
 
-fn lines_fit(width: u32, height: u32, lines: &[AtomList]) -> bool
-    ensures { result ≡ (nat_le (length lines.now) MOST_LINES && list_all (line_fits width height) lines.now) }
+fn are_in_numbers(lines: &[AtomList]) -> bool
+    ensures { result ≡ list_all (list_all in_numbers) lines.now }
 {
-    lines.len() <= MOST_LINES && each_fits(width, height, lines)
+    lines.iter().all(|line| in_numbers(line.as_slice()))
 }
 
-fn each_fits(width: u32, height: u32, lines: &[AtomList]) -> bool
-    ensures { result ≡ list_all (line_fits width height) lines.now }
+/// Whether a problem asks for the start board alone, with goal lines in plain numbers.
+pub fn is_start_problem(tree: &ProblemText) -> bool
+    ensures { IsTrue result ↔ IsStartProblem tree.now }
 {
-    lines
-        .iter()
-        .all(|line| line_fits(width, height, line.as_slice()))
-}
-
-fn line_fits(width: u32, height: u32, line: &[AtomText]) -> bool
-    ensures { result ≡ line_fits width height line.now }
-{
-    line.len() <= MOST_ATOMS && each_names_cell(width, height, line)
-}
-
-fn each_names_cell(width: u32, height: u32, line: &[AtomText]) -> bool
-    ensures { result ≡ list_all (names_cell width height) line.now }
-{
-    line.iter().all(|atom| names_cell(width, height, *atom))
-}
-
-fn names_cell(width: u32, height: u32, atom: AtomText) -> bool
-    ensures { result ≡ names_cell width height atom }
-{
-    number_on_side(width, atom.x) && number_on_side(height, atom.y)
-}
-
-fn number_on_side(side: u32, term: TermText) -> bool
-    ensures { result ≡ number_on_side side term }
-{
-    match term {
-        TermText::Number(n) => is_on_side(side, n),
-        TermText::Shift(_) | TermText::Least | TermText::Greatest => false,
-    }
+    tree.depth == 0 && are_in_numbers(tree.black.as_slice()) && tree.white.as_slice().is_empty()
 }

@@ -1,3 +1,4 @@
+mod checks;
 mod evaluator;
 mod formatting;
 mod start_positions;
@@ -148,83 +149,6 @@ fn assert_refused(
     assert_eq!(rt; answer.status, 2);
     assert!(rt; answer.out.is_empty());
     Ok(())
-}
-
-// A problem is not built, with whichever domain.
-fn assert_not_built(rt: &impl Abort, alloc: Global, problem: &[u8]) -> Result<(), Fail> {
-    let action =
-        b"#blackactions #whiteactions :action a :parameters (?x, ?y) :precondition () :effect ()";
-    assert_refused(rt, alloc, action, problem, b"domain: not built\n")?;
-    assert_refused(rt, alloc, DOMAIN, problem, b"problem: not built\n")
-}
-
-#[test]
-fn other_games_are_not_built(rt: HostRuntime) -> Result<(), Fail> {
-    let problems: [&[u8]; 14] = [
-        b"#boardsize 0 1 #init () #depth 0 #blackgoals #whitegoals",
-        b"#boardsize 1 0 #init () #depth 0 #blackgoals #whitegoals",
-        b"#boardsize 17 1 #init () #depth 0 #blackgoals #whitegoals",
-        b"#boardsize 1 17 #init () #depth 0 #blackgoals #whitegoals",
-        b"#boardsize 1 1 #init () #depth 1 #blackgoals #whitegoals",
-        b"#boardsize 2 3 #init (open(0,1)) #depth 0 #blackgoals #whitegoals",
-        b"#boardsize 2 3 #init (open(1,0)) #depth 0 #blackgoals #whitegoals",
-        b"#boardsize 2 3 #init (open(2,3) black(3,1)) #depth 0 #blackgoals #whitegoals",
-        b"#boardsize 2 3 #init (open(2,3) black(1,4)) #depth 0 #blackgoals #whitegoals",
-        b"#boardsize 2 3 #init (black(1,1) black(1,1)) #depth 0 #blackgoals #whitegoals",
-        b"#boardsize 2 3 #init (open(2,1) black(1,2) white(2,1)) #depth 0 #blackgoals #whitegoals",
-        b"#boardsize 1 1 #init () #depth 0 #blackgoals #whitegoals ()",
-        b"#boardsize 1 1 #init () #depth 0 #blackgoals #whitegoals (black(1,1))",
-        b"#boardsize 1 1 #init () #depth 0 #blackgoals () #whitegoals (black(?x,ymax))",
-    ];
-    for problem in &problems {
-        assert_not_built(&rt, rt.alloc(), problem)?;
-    }
-    Ok(())
-}
-
-#[test]
-fn lines_with_other_terms_are_not_built(rt: HostRuntime) -> Result<(), Fail> {
-    let problems: [&[u8]; 9] = [
-        b"#boardsize 2 3 #init () #depth 0 #blackgoals (black(?x,1)) #whitegoals",
-        b"#boardsize 2 3 #init () #depth 0 #blackgoals (black(?x+1,1)) #whitegoals",
-        b"#boardsize 2 3 #init () #depth 0 #blackgoals (black(xmin,1)) #whitegoals",
-        b"#boardsize 2 3 #init () #depth 0 #blackgoals (black(1,ymax)) #whitegoals",
-        b"#boardsize 2 3 #init () #depth 0 #blackgoals (black(0,1)) #whitegoals",
-        b"#boardsize 2 3 #init () #depth 0 #blackgoals (black(1,0)) #whitegoals",
-        b"#boardsize 2 3 #init () #depth 0 #blackgoals (black(3,1)) #whitegoals",
-        b"#boardsize 2 3 #init () #depth 0 #blackgoals (black(1,4)) #whitegoals",
-        b"#boardsize 2 3 #init () #depth 0 #blackgoals () (black(2,3) open(3,1)) () #whitegoals",
-    ];
-    for problem in &problems {
-        assert_not_built(&rt, rt.alloc(), problem)?;
-    }
-    Ok(())
-}
-
-// A problem of one cell whose goal lines have this text so many times between two others.
-fn problem_of(
-    alloc: Global,
-    front: &[u8],
-    part: &[u8],
-    count: u32,
-    end: &[u8],
-) -> Result<Vec<u8>, AllocError> {
-    let mut problem = b"#boardsize 1 1 #init () #depth 0 #blackgoals ".to_vec(alloc)?;
-    problem.extend_from_slice(front)?;
-    for _ in 0..count {
-        problem.extend_from_slice(part)?;
-    }
-    problem.extend_from_slice(end)?;
-    problem.extend_from_slice(b" #whitegoals")?;
-    Ok(problem)
-}
-
-#[test]
-fn long_lines_and_many_lines_are_not_built(rt: HostRuntime) -> Result<(), Fail> {
-    let long_line = problem_of(rt.alloc(), b"(", b"black(1,1) ", 17, b")")?;
-    assert_not_built(&rt, rt.alloc(), &long_line)?;
-    let many_lines = problem_of(rt.alloc(), b"", b"()", 257, b"")?;
-    assert_not_built(&rt, rt.alloc(), &many_lines)
 }
 
 #[test]

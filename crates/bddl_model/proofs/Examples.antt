@@ -300,3 +300,7 @@ cells_come_before_lines = refl
 a_line_off_the_board : setup_fault (blacks []) (record { width = 1; height = 1; init = []; depth = 31; black = (here marks.Black ∷ []) ∷ []; white = [] ∷ (column 2 marks.White ∷ []) ∷ [] }) ≡ Some (fault.NumberOffBoard (item.Line White 2) 2)
 unfolding setup_fault
 a_line_off_the_board = refl
+
+many_lines : setup_fault (blacks []) (record { width = 1; height = 1; init = []; depth = 0; black = []; white = replicate 257 [] }) ≡ Some (fault.TooManyLines White 257)
+unfolding setup_fault
+many_lines = refl

@@ -1,5 +1,5 @@
 -- The first fault of a game that two trees state, in the order in which the texts are checked, and the setup where there is none.
-use Rattle.std.specs.Prelude.{ℕ, suc, ◌+◌, Bool, true, false, not, nat_lt, bytes_eq, if◌then◌else◌, List, [], ◌∷◌, ◌++◌, length, flat_map, Option, None, Some, Result, Ok, Err}
+use Rattle.std.specs.Prelude.{ℕ, suc, ◌+◌, Bool, true, false, not, ◌&&◌, ◌==◌, nat_lt, bytes_eq, if◌then◌else◌, List, [], ◌∷◌, ◌++◌, length, flat_map, Option, None, Some, Result, Ok, Err}
 use Rattle.std.specs.List.{list_any, range_with_len}
 use Rattle.bddl_model.specs.declared.game.Side.{Side}
 use Rattle.bddl_model.specs.declared.game.Side.TheVariants.{Black, White}
@@ -21,7 +21,6 @@ use Rattle.bddl_model.specs.declared.check.CheckFault.{CheckFault}
 use Rattle.bddl_model.specs.declared.check.CheckFault.TheVariants as fault
 use Rattle.bddl_model.specs.Fitting.{on_side, fits}
 use Rattle.bddl_model.specs.Setup.{Setup, setup_of, line_of}
-use Rattle.bddl_model.specs.Start.{same_cell}
 
 -- ---- checks one after the other
 
@@ -95,6 +94,9 @@ abbrev pub actions_fault : ℕ → ℕ → Side → List ActionText → Option C
 actions_fault width height side actions = first_of (fault_if (nat_lt 8 (length actions)) (fault.TooManyActions side (length actions)) ∷ each_action width height side [] actions)
 
 -- ---- cells of the start board
+
+abbrev pub same_cell : InitAtom → InitAtom → Bool
+same_cell a b = a.x == b.x && a.y == b.y
 
 -- a cell behind those that are named before it
 abbrev pub cell_fault : ℕ → ℕ → List InitAtom → InitAtom → Option CheckFault

@@ -4,6 +4,7 @@ use Rattle.std.specs.List.{list_all}
 use Rattle.bddl_model.specs.declared.game.Term.{Term}
 use Rattle.bddl_model.specs.declared.game.Term.TheVariants.{Rel, Abs}
 use Rattle.bddl_model.specs.declared.game.Atom.{Atom}
+use Rattle.bddl_model.specs.declared.texts.InitAtom.{InitAtom}
 use Rattle.bddl_model.specs.Board.{Board, mark_at, same_mark}
 
 -- the number that a term leads to from the anchor's; 0 stands for all that lie before the board
@@ -14,6 +15,9 @@ led (Abs m) n = m
 
 abbrev pub on_side : ℕ → ℕ → Bool
 on_side side n = nat_le 1 n && nat_le n side
+
+abbrev pub cell_on_board : ℕ → ℕ → InitAtom → Bool
+cell_on_board width height cell = on_side width cell.x && on_side height cell.y
 
 -- the atom's cell is on the board
 abbrev pub on_board : ℕ → ℕ → ℕ → ℕ → Atom → Bool

@@ -6,6 +6,16 @@ use Rattle.bddl_model.specs.declared.tokens.LexFault.{LexFault}
 use Rattle.bddl_model.specs.declared.tokens.LexFault.TheVariants as lex
 use Rattle.bddl_model.specs.declared.fault.ReadFault.{ReadFault}
 use Rattle.bddl_model.specs.declared.fault.ReadFault.TheVariants as fault
+use Rattle.bddl_model.specs.declared.game.Side.{Side}
+use Rattle.bddl_model.specs.declared.game.Side.TheVariants.{Black, White}
+use Rattle.bddl_model.specs.declared.check.Item.{Item}
+use Rattle.bddl_model.specs.declared.check.Item.TheVariants as item
+use Rattle.bddl_model.specs.declared.check.Axis.{Axis}
+use Rattle.bddl_model.specs.declared.check.Axis.TheVariants.{Width, Height}
+use Rattle.bddl_model.specs.declared.check.Part.{Part}
+use Rattle.bddl_model.specs.declared.check.Part.TheVariants as part
+use Rattle.bddl_model.specs.declared.check.CheckFault.{CheckFault}
+use Rattle.bddl_model.specs.declared.check.CheckFault.TheVariants as check
 use Rattle.bddl_model.specs.Reading.{place_at}
 
 abbrev pub no_such_request : List ℕ
@@ -59,3 +69,40 @@ domain_fault bytes f = place_note (codes "domain") (fault_place bytes f) (fault_
 
 abbrev pub problem_fault : List ℕ → ReadFault → List ℕ
 problem_fault bytes f = place_note (codes "problem") (fault_place bytes f) (fault_words f)
+
+-- ---- games that have a fault
+
+abbrev pub side_name : Side → List ℕ
+side_name Black = codes "black"
+side_name White = codes "white"
+
+abbrev pub axis_name : Axis → List ℕ
+axis_name Width = codes "width"
+axis_name Height = codes "height"
+
+-- the item's kind and its number
+abbrev pub item_text : Item → List ℕ
+item_text (item.Action side n) = side_name side ++ (codes " action " ++ decimal n)
+item_text (item.Init n) = codes "init atom " ++ decimal n
+item_text (item.Line side n) = side_name side ++ (codes " goal " ++ decimal n)
+
+abbrev pub limit_words : Part → List ℕ
+limit_words part.Before = codes "preconditions are over 8"
+limit_words part.Effects = codes "effects are over 4"
+limit_words part.Line = codes "atoms are over 16"
+
+-- what is wrong; want of memory is no fault of a game
+abbrev pub check_words : CheckFault → List ℕ
+check_words (check.SizeOutOfRange axis said) = axis_name axis ++ (codes " " ++ (decimal said ++ codes " is not 1 to 16"))
+check_words (check.DepthOutOfRange said) = codes "depth " ++ (decimal said ++ codes " is over 31")
+check_words (check.TooManyActions side found) = side_name side ++ (codes " actions: " ++ (decimal found ++ codes " are over 8"))
+check_words (check.TooManyAtoms i p found) = item_text i ++ (codes ": " ++ (decimal found ++ (codes " " ++ limit_words p)))
+check_words (check.SameName i earlier) = item_text i ++ (codes ": same name as action " ++ decimal earlier)
+check_words (check.NumberOffBoard i said) = item_text i ++ (codes ": number " ++ (decimal said ++ codes " is off the board"))
+check_words (check.NeverOnBoard i) = item_text i ++ codes ": never on the board"
+check_words (check.CellTwice i x y) = item_text i ++ (codes ": cell " ++ (decimal x ++ (codes " " ++ (decimal y ++ codes " is named twice"))))
+check_words (check.TooManyLines side found) = side_name side ++ (codes " goals: " ++ (decimal found ++ codes " are over 256"))
+check_words check.NoMemory = []
+
+abbrev pub check_note : CheckFault → List ℕ
+check_note f = codes "check: " ++ (check_words f ++ codes "\n")

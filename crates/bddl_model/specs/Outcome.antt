@@ -1,5 +1,5 @@
 -- What a command line comes to, by the files that are held.
-use Rattle.std.specs.Prelude.{ℕ, ◌≡◌, ◌+◌, ◌<◌, ◌≤◌, ◌⊎◌, List, [], ◌++◌, length, Bool, IsTrue, Option, None, Some}
+use Rattle.std.specs.Prelude.{ℕ, ◌≡◌, ◌+◌, ◌<◌, ◌≤◌, ◌⊎◌, List, [], ◌++◌, length, Bool, IsTrue, Option, None, Some, Result, Ok, Err}
 use Rattle.std.specs.FinMap.{get}
 use Rattle.bddl_model.specs.declared.formula.Quant.TheVariants.{Exists}
 use Rattle.bddl_model.specs.declared.texts.DomainText.{DomainText}
@@ -17,7 +17,9 @@ use Rattle.bddl_model.specs.Forms.{IsForm}
 use Rattle.bddl_model.specs.FormulaText.{qtext}
 use Rattle.bddl_model.specs.Qdimacs.{HasOneForm}
 use Rattle.bddl_model.specs.Layout.{layout, blocks, prefix_of, bounds}
-use Rattle.bddl_model.specs.Setup.{Setup, setup_of}
+use Rattle.bddl_model.specs.declared.check.CheckFault.{CheckFault}
+use Rattle.bddl_model.specs.Setup.{Setup}
+use Rattle.bddl_model.specs.Check.{checked_setup}
 use Rattle.bddl_model.specs.Start.{IsStartProblem}
 use Rattle.bddl_model.specs.Win.{win}
 
@@ -50,25 +52,31 @@ pub record Encodes (form : Formula) (s : Setup) : Type 0 where
   pub few : length form.clauses < 1000000000
   pub value : form_value form ≡ win s.game s.first s.board s.depth
 
--- the texts are a domain without actions and this problem of a start board
-abbrev pub IsBuilt : List ℕ → List ℕ → ProblemText → Type 0
-IsBuilt d p tree = Reads domain d no_actions × Reads problem p tree × IsStartProblem tree
+-- the texts have these trees, and checking them gives this
+abbrev pub States : List ℕ → List ℕ → DomainText → ProblemText → Result Setup CheckFault → Type 0
+States d p dom prob checked = Reads domain d dom × Reads problem p prob × (checked_setup dom prob ≡ checked)
 
--- compiling two texts writes the text of a form that encodes their setup; it is the one form that is read from the text
+-- the texts state this setup, which is built: the domain has no actions, and the problem asks for the start board alone
+abbrev pub IsBuilt : List ℕ → List ℕ → ProblemText → Setup → Type 0
+IsBuilt d p prob s = States d p no_actions prob (Ok s) × IsStartProblem prob
+
+-- The text is that of a form that encodes the setup which the texts state; it is the one form that is read from the text.
 pub record Compiles (d p text : List ℕ) : Type 0 where
-  pub tree : ProblemText
+  pub prob : ProblemText
+  pub setup : Setup
+  pub built : IsBuilt d p prob setup
   pub form : Formula
-  pub built : IsBuilt d p tree
-  pub encodes : Encodes form (setup_of no_actions tree)
+  pub encodes : Encodes form setup
   pub written : text ≡ qtext form
   pub read : HasOneForm text form
 
--- What compiling two texts may end as: a fault of the domain's text is told, or else of the problem's; then a domain that has actions, or else a problem that is not of a start board. Else a text is written.
+-- What compiling two texts may end as: a fault of the domain's text is told, or else of the problem's, or else of the game that they state; then that the domain has actions, or else that more is asked for than the start board. Else a text is written.
 pub data CompileEnds (d p : List ℕ) (end : End) : Type 0 where
   domain_fails : (f : ReadFault) → ReadFails domain d f → end ≡ refused 2 (notes.domain_fault d f) → CompileEnds d p end
   problem_fails : (dom : DomainText) (f : ReadFault) → Reads domain d dom → ReadFails problem p f → end ≡ refused 2 (notes.problem_fault p f) → CompileEnds d p end
-  domain_not_built : (dom : DomainText) (prob : ProblemText) → Reads domain d dom → Reads problem p prob → (dom ≡ no_actions → ⊥) → end ≡ refused 2 notes.domain_not_built → CompileEnds d p end
-  problem_not_built : (prob : ProblemText) → Reads domain d no_actions → Reads problem p prob → (IsStartProblem prob → ⊥) → end ≡ refused 2 notes.problem_not_built → CompileEnds d p end
+  check_fails : (dom : DomainText) (prob : ProblemText) (f : CheckFault) → States d p dom prob (Err f) → end ≡ refused 2 (notes.check_note f) → CompileEnds d p end
+  domain_not_built : (dom : DomainText) (prob : ProblemText) (s : Setup) → States d p dom prob (Ok s) → (dom ≡ no_actions → ⊥) → end ≡ refused 2 notes.domain_not_built → CompileEnds d p end
+  problem_not_built : (prob : ProblemText) (s : Setup) → States d p no_actions prob (Ok s) → (IsStartProblem prob → ⊥) → end ≡ refused 2 notes.problem_not_built → CompileEnds d p end
   compiles : (text : List ℕ) → Compiles d p text → end ≡ done text → CompileEnds d p end
 
 -- ---- printing

@@ -22,7 +22,7 @@ use Rattle.bddl_model.specs.Fitting.{on_side}
 use Rattle.bddl_model.specs.Layout.{bounds, layout, span}
 use Rattle.bddl_model.specs.Outcome.{Encodes, no_actions}
 use Rattle.bddl_model.specs.Setup.{setup_of, marked, term_of, line_of}
-use Rattle.bddl_model.specs.Start.{IsStartProblem, number_on_side, names_cell, line_fits}
+use Rattle.lifted_encode.specs.Fixed.{number_on_side, names_cell, line_fits, IsFixed}
 use Rattle.bddl_model.proofs.CircuitForms.{circuit_fits, clauses_counted}
 use Rattle.bddl_model.proofs.Counted.{counted, counted-append, counted-in_range, counted-apart, variables-bounds, variables-append}
 use Rattle.lifted_encode.specs.Serving.{serves, number_in}
@@ -91,7 +91,7 @@ parts line anchor claim behind gates more e f g =
     let place : 1 + claim ≡ 2 + line + anchor = omega arith in
     ap₂ (λ xs ys. xs ++ ys) (ap₂ (λ n v. bounds Exists 1 n ++ bounds All v anchor) e place) (ap₂ (λ v n. bounds Exists v n) (sym f) (sym g))
 
-module _ (p : ProblemText) (form : Formula) (c : Circuit) (out : Wire) (start : IsStartProblem p) where
+module _ (p : ProblemText) (form : Formula) (c : Circuit) (out : Wire) (fixed : IsFixed p) where
   abbrev lines : List (List Atom)
   lines = map (line_of p.width p.height) p.black
 
@@ -124,10 +124,10 @@ module _ (p : ProblemText) (form : Formula) (c : Circuit) (out : Wire) (start : 
         value =
             ap₂ (λ bs cs. value bs (clauses_true cs) no_values)
             (e ∙ parts (bits (length lines)) anchor claim (suc c.inputs) (1 + length c.gates) (suc (length c.gates)) known (omega (arith, n)) (omega arith) ∙ ap (λ bs. bs ++ bounds Exists (suc c.inputs) (suc (length c.gates))) (sym inputs)) k
-            ∙ start_is_exact p.width p.height lines board c out no_values start.width.0 start.height.0 (lines_fixed p.width p.height p.black start.black) good wire (subst SaysBy same_bits says);
+            ∙ start_is_exact p.width p.height lines board c out no_values fixed.width.0 fixed.height.0 (lines_fixed p.width p.height p.black fixed.black) good wire (subst SaysBy same_bits says);
       }
 
   pub start_is_encoded : form.prefix ≡ three_blocks claim anchor (1 + length c.gates) → form.clauses ≡ circuit_clauses c out → c.inputs ≡ claim + anchor → nodes_of c ≤ 16777215 → IsCircuit c → IsWire c out → SaysBy (bits (length p.black)) → Encodes form (setup_of no_actions p)
   start_is_encoded e k n small good wire says =
-      let same : p ≡ start_problem p = λ i. record { width = p.width; height = p.height; init = p.init; depth = start.depth i; black = p.black; white = start.white i } in
+      let same : p ≡ start_problem p = λ i. record { width = p.width; height = p.height; init = p.init; depth = fixed.depth i; black = p.black; white = fixed.white i } in
       subst (λ q. Encodes form (setup_of no_actions q)) (sym same) (start_encoded e k n small good wire says)

@@ -1,3 +1,5 @@
+pub mod TwoCells
+pub mod Checked
 pub mod BoundLoop
 pub mod StartValue
 pub mod StartGoal

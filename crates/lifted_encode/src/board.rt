@@ -3,7 +3,7 @@ ghost use Rattle.std.specs.Prelude.{◌≡◌, ◌*◌, ◌<◌, ◌≤◌, true
 ghost use Rattle.std.specs.List.{list_all};
 ghost use Rattle.bddl_model.specs.Board.{index, mark_at, open_board};
 ghost use Rattle.bddl_model.specs.Setup.{marked};
-ghost use Rattle.bddl_model.specs.Start.{cell_on_board};
+ghost use Rattle.bddl_model.specs.Fitting.{cell_on_board};
 ghost use Rattle.lifted_encode.specs.Serving.{IsBoard};
 
 use bddl_model::{InitAtom, Mark, NoMemory};

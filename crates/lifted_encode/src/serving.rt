@@ -5,7 +5,7 @@ ghost use Rattle.bddl_model.specs.Truth.{Assignment};
 ghost use Rattle.bddl_model.specs.Circuit.{nodes_of, IsWire, holds};
 ghost use Rattle.bddl_model.specs.Growth.{Grows};
 ghost use Rattle.bddl_model.specs.Setup.{atom_of, line_of};
-ghost use Rattle.bddl_model.specs.Start.{names_cell, line_fits};
+ghost use Rattle.lifted_encode.specs.Fixed.{names_cell, line_fits};
 ghost use Rattle.lifted_encode.specs.Serving.{agrees, serves, number_in, IsWord, IsBoard};
 
 use crate::board::Board;

@@ -1,8 +1,10 @@
-ghost use Rattle.std.specs.Prelude.{◌≡◌, ◌+◌, ◌^◌, ◌<◌, ◌≤◌, ◌++◌, IfOk, OnOk};
+ghost use Rattle.std.specs.Prelude.{◌≡◌, None, ◌+◌, ◌^◌, ◌<◌, ◌≤◌, ◌++◌, IfOk, OnOk};
+ghost use Rattle.bddl_model.specs.Check.{setup_fault};
 ghost use Rattle.bddl_model.specs.Layout.{bounds};
 ghost use Rattle.bddl_model.specs.Outcome.{Encodes, no_actions};
 ghost use Rattle.bddl_model.specs.Setup.{setup_of};
 ghost use Rattle.bddl_model.specs.Start.{IsStartProblem};
+ghost use Rattle.lifted_encode.specs.Fixed.{IsFixed};
 ghost use Rattle.lifted_encode.specs.Forms.{formula_of};
 ghost use Rattle.bddl_model.specs.declared.formula.Quant.TheVariants.{Exists, All as for_all};
 
@@ -60,11 +62,9 @@ fn start_prefix(alloc: Global, claim: u32, place: u32, gates: u32) -> Result<Vec
     Ok(prefix)
 }
 
-/// The formula of a start position: some line of Black agrees with the start board at all places.
-/// Its inputs are those of the layout. Behind them stand the variable that is true and those of the
-/// gates.
-pub fn start_form(alloc: Global, problem: &ProblemText) -> Result<StartForm, NoMemory>
-    requires { IsStartProblem problem.now }
+// The formula of a start board and of lines that name its cells.
+fn fixed_form(alloc: Global, problem: &ProblemText) -> Result<StartForm, NoMemory>
+    requires { IsFixed problem.now }
     ensures { IfOk result (λ form. Encodes (formula_of form) (setup_of no_actions problem.now)) }
 {
     let lines = problem.black.as_slice();
@@ -86,6 +86,17 @@ pub fn start_form(alloc: Global, problem: &ProblemText) -> Result<StartForm, NoM
     })
 }
 
+/// The formula of a start position: some line of Black agrees with the start board at all places.
+/// Its inputs are those of the layout. Behind them stand the variable that is true and those of the
+/// gates.
+pub fn start_form(alloc: Global, problem: &ProblemText) -> Result<StartForm, NoMemory>
+    requires checked { setup_fault no_actions problem.now ≡ None }
+    requires start { IsStartProblem problem.now }
+    ensures { IfOk result (λ form. Encodes (formula_of form) (setup_of no_actions problem.now)) }
+{
+    fixed_form(alloc, problem)
+}
+
 #[cfg(test)]
 mod tests {
     use super::*;
@@ -95,7 +106,8 @@ mod tests {
 
     // Two cells, the first one marked so, and a line that asks for a black stone there.
     fn two_cells(alloc: Global, mark: Mark) -> Result<ProblemText, NoMemory>
-        ensures { IfOk result IsStartProblem }
+        ensures checked { IfOk result (λ p. setup_fault no_actions p ≡ None) }
+        ensures start { IfOk result IsStartProblem }
     {
         let mut init = InitList::new(alloc);
         init.push(InitAtom { mark, x: 1, y: 1 })?;

@@ -1,5 +1,5 @@
 -- How many cells there are on a board.
-use Rattle.std.proofs.Common.{◌≡◌, ℕ, ◌+◌, ◌-◌, ◌*◌, ◌/◌, ◌%◌, ◌<◌, ◌≤◌, true, false, eqb, List, [], ◌∷◌, length, map, sym, ap, ◌∙◌, ⊎_elim, arith}
+use Rattle.std.proofs.Common.{◌≡◌, ℕ, ◌+◌, ◌-◌, ◌*◌, ◌/◌, ◌%◌, ◌<◌, ◌≤◌, Bool, true, false, ◌&&◌, not, eqb, List, [], ◌∷◌, length, map, sym, ap, ◌∙◌, ⊎_elim, arith}
 use Rattle.std.specs.List.{list_any, list_all, IsDistinct, AllByRecursion}
 use Rattle.std.proofs.lemmas.Bool.{and_parts, or_parts, or_cases, eqb-true, not-true, false_from_ne_true, false≢true}
 use Rattle.std.proofs.lemmas.Bool.Decides.{nat_tests}
@@ -8,9 +8,14 @@ use Rattle.std.proofs.lemmas.List.{length-map}
 use Rattle.std.proofs.lemmas.Map.Steps.{length-le_from_distinct_below}
 use Rattle.bddl_model.specs.declared.texts.InitAtom.{InitAtom}
 use Rattle.bddl_model.specs.Board.{index}
-use Rattle.bddl_model.specs.Fitting.{on_side}
-use Rattle.bddl_model.specs.Start.{cell_on_board, same_cell, cells_apart}
+use Rattle.bddl_model.specs.Check.{same_cell}
+use Rattle.bddl_model.specs.Fitting.{on_side, cell_on_board}
 use Rattle.grid_game.proofs.Cells.{on_side_low, on_side_high, index_below}
+
+-- no cell is named twice
+abbrev pub cells_apart : List InitAtom → Bool
+cells_apart [] = true
+cells_apart (a ∷ more) = not (list_any (same_cell a) more) && cells_apart more
 
 abbrev place : ℕ → InitAtom → ℕ
 place width a = index width a.x a.y

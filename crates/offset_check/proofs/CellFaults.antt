@@ -6,9 +6,9 @@ use Rattle.std.proofs.lemmas.List.{take_more, at_drop_more}
 use Rattle.std.proofs.lemmas.List.Folds.{list_any-append, list_all-append}
 use Rattle.bddl_model.specs.declared.check.CheckFault.{CheckFault}
 use Rattle.bddl_model.specs.declared.texts.InitAtom.{InitAtom}
-use Rattle.bddl_model.specs.Check.{first_of, fault_if, cell_fault, each_cell}
-use Rattle.bddl_model.specs.Fitting.{on_side}
-use Rattle.bddl_model.specs.Start.{cell_on_board, same_cell, cells_apart}
+use Rattle.bddl_model.specs.Check.{first_of, fault_if, same_cell, cell_fault, each_cell}
+use Rattle.bddl_model.specs.Fitting.{on_side, cell_on_board}
+use Rattle.offset_check.proofs.CellCounts.{cells_apart}
 
 -- a cell without a fault is on the board, and none before it is the same
 passed : (width height : ℕ) (earlier : List InitAtom) (a : InitAtom) → cell_fault width height earlier a ≡ None → (cell_on_board width height a ≡ true) × (list_any (same_cell a) earlier ≡ false)

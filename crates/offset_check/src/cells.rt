@@ -1,9 +1,8 @@
 // The cells of the start board.
 ghost use Rattle.std.specs.Prelude.{◌≡◌, ◌≤◌, length, OnOk};
 ghost use Rattle.std.specs.List.{list_any};
-ghost use Rattle.bddl_model.specs.Check.{cells_fault, cell_fault};
+ghost use Rattle.bddl_model.specs.Check.{cells_fault, cell_fault, same_cell};
 ghost use Rattle.bddl_model.specs.Setup.{marked};
-ghost use Rattle.bddl_model.specs.Start.{same_cell};
 ghost use Rattle.offset_check.specs.Checks.{Checks};
 
 use bddl_model::{CheckFault, InitAtom, Item};

@@ -2,7 +2,8 @@ use Rattle.std.proofs.Common.{◌≡◌, true, [], take, drop}
 use Rattle.std.specs.List.{list_all}
 use Rattle.bddl_model.specs.Check.{first_of, each_cell}
 use Rattle.bddl_model.specs.Setup.{marked}
-use Rattle.bddl_model.specs.Start.{cell_on_board, cells_apart}
+use Rattle.bddl_model.specs.Fitting.{cell_on_board}
+use Rattle.offset_check.proofs.CellCounts.{cells_apart}
 use Rattle.offset_check.proofs.cells.mark_cells.Given as goal
 
 -- those that were marked have no fault; what is left leads to the first fault and to the whole board
