@@ -18,7 +18,7 @@ var_some inputs zero = omega arith
 var_some inputs (suc k) = ⊎_elim (λ l. rw (lt-ltb k inputs l) (omega arith)) (λ g. rw (le-ltb k inputs g) (omega arith)) (cases_lt k inputs)
 
 -- a later node that is not the true one has a variable of its own
-var_apart : (inputs j k : ℕ) → j < k → variable_of inputs j ≢ variable_of inputs k
+pub var_apart : (inputs j k : ℕ) → j < k → variable_of inputs j ≢ variable_of inputs k
 var_apart inputs j zero lt = absurd (omega arith)
 var_apart inputs zero (suc k) lt = ⊎_elim (λ l. rw (lt-ltb k inputs l) (λ e. omega arith)) (λ g. rw (le-ltb k inputs g) (λ e. omega arith)) (cases_lt k inputs)
 var_apart inputs (suc j) (suc k) lt = ⊎_elim

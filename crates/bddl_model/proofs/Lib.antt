@@ -13,5 +13,6 @@ pub mod WrittenForms
 pub mod OneText
 pub mod CircuitForms
 pub mod Growth
+pub mod WireWords
 pub mod Rectangle
 pub mod Moves

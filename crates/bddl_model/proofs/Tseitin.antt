@@ -21,7 +21,7 @@ abbrev agree : Bool → Bool → Bool
 agree true b = b
 agree false b = not b
 
-negation_true : (a : Assignment) (l : Lit) → literal_true a (negation l) ≡ not (literal_true a l)
+pub negation_true : (a : Assignment) (l : Lit) → literal_true a (negation l) ≡ not (literal_true a l)
 negation_true a l = go l.negated (a l.var.0)
   where
     go : (n t : Bool) → (if not n then not t else t) ≡ not (if n then not t else t)
@@ -89,7 +89,7 @@ pub var_below : (inputs k n : ℕ) → inputs < n → k < n → variable_of inpu
 var_below inputs zero n i lt = omega arith
 var_below inputs (suc k) n i lt = ⊎_elim (λ b. rw (lt-ltb k inputs b) (omega arith)) (λ b. rw (le-ltb k inputs b) (omega arith)) (cases_lt k inputs)
 
-var_gate : (inputs n : ℕ) → inputs < n → variable_of inputs n ≡ suc n
+pub var_gate : (inputs n : ℕ) → inputs < n → variable_of inputs n ≡ suc n
 var_gate inputs zero i = absurd (omega arith)
 var_gate inputs (suc n) i = let le : inputs ≤ n = omega arith in rw (le-ltb n inputs le)
 
@@ -133,7 +133,7 @@ module _ (inputs : ℕ) (out : Wire) where
       ∙ one_point (literal_true a (literal_of inputs g.left) && literal_true a (literal_of inputs g.right)) (λ b. wire_true (gate_values gs (suc n) (assign n b (nodes inputs a))) out)
 
 -- the gates read earlier nodes alone
-run_same : (gs : List Gate) (n : ℕ) (u w : Assignment) (out : Wire) → Ordered gs n → out.node.0 < n + length gs → ((k : ℕ) → k < n → u k ≡ w k) → wire_true (gate_values gs n u) out ≡ wire_true (gate_values gs n w) out
+pub run_same : (gs : List Gate) (n : ℕ) (u w : Assignment) (out : Wire) → Ordered gs n → out.node.0 < n + length gs → ((k : ℕ) → k < n → u k ≡ w k) → wire_true (gate_values gs n u) out ≡ wire_true (gate_values gs n w) out
 run_same [] n u w out o lt h = ap (λ x. if out.negated then not x else x) (h out.node.0 (omega arith))
 run_same (g ∷ gs) n u w out o lt h = run_same gs (suc n) _ _ out o.2 (omega arith) step
   where

@@ -10,6 +10,7 @@ pub mod Truth
 pub mod Forms
 pub mod Circuit
 pub mod Growth
+pub mod Words
 pub mod FormulaText
 pub mod FormulaWords
 pub mod Qdimacs
@@ -26,6 +27,17 @@ pub mod Start
 pub mod Check
 pub mod Bits
 pub mod Layout
+pub mod CircuitValues
+pub mod Dual
+pub mod Fine
+pub mod Resolution
+pub mod Tail
+pub mod Size
+pub mod Bounds
+pub mod TrailDigits
+pub mod Conditions
+pub mod Exact
+pub mod Encoding
 pub mod Canonical
 pub mod Notes
 pub mod Request
