@@ -1,20 +1,45 @@
--- The gates of a circuit, one after the other.
-use Rattle.std.proofs.Common.{◌≡◌, ℕ, zero, suc, ◌+◌, ◌<◌, ◌≤◌, List, [], ◌∷◌, length, get_or, sym, ap, subst, arith}
+-- The clauses of a circuit's gates, one node after the other.
+use Rattle.std.proofs.Common.{◌≡◌, ℕ, suc, ◌+◌, ◌-◌, List, [], ◌∷◌, ◌++◌, drop, Option, Some, None, option_map, sym, ap, ◌∙◌, arith, drop-cons, append_assoc}
+use Rattle.std.proofs.lemmas.Option.{slice_get_within, get_or_from_slice_get}
+use Rattle.bddl_model.specs.declared.circuit.Wire.{Wire}
 use Rattle.bddl_model.specs.declared.circuit.Gate.{Gate}
-use Rattle.bddl_model.specs.Circuit.{Circuit, IsCircuit, Ordered, nodes_of}
+use Rattle.bddl_model.specs.declared.formula.Lit.{Lit}
+use Rattle.bddl_model.specs.Circuit.{Circuit, literal_of, gate_clauses, gates_clauses}
+use Rattle.circuit_dag.specs.Gates.{operands, gate_at}
+use Rattle.circuit_dag.proofs.Places.{at_place}
 
-operands_below : (gs : List Gate) (n i : ℕ) (none : Gate) → Ordered gs n → i < length gs → ((get_or gs i none).left.node.0 < n + length gs) × ((get_or gs i none).right.node.0 < n + length gs)
-operands_below [] n i none o lt = absurd (omega arith)
-operands_below (g ∷ gs) n zero none o lt = (omega (arith, o.0, o.1), omega (arith, o.1))
-operands_below (g ∷ gs) n (suc i) none o lt = let h = operands_below gs (suc n) i none o.2 (omega arith) in (omega (arith, h.0), omega (arith, h.1))
+gate_found : (found : Option Gate) (v w : Wire) → Some (v, w) ≡ option_map operands found → found ≡ Some (record { left = v; right = w })
+gate_found (Some g) v w h = let e : operands g ≡ (v, w) = cc in ap (λ p. Some (record { left = p.0; right = p.1 })) e
+gate_found None v w h = absurd cc
 
--- each operand of a gate is a node
-module _ (c : Circuit) (gs : List Gate) (i most : ℕ) (none : Gate) (e : gs ≡ c.gates) (o : IsCircuit c) (room : nodes_of c ≤ most) (lt : i < length gs) where
-  both_below : ((get_or gs i none).left.node.0 < suc c.inputs + length gs) × ((get_or gs i none).right.node.0 < suc c.inputs + length gs)
-  both_below = operands_below gs (suc c.inputs) i none (subst (λ l. Ordered l (suc c.inputs)) (sym e) o) lt
+-- the clauses of a node's gate and those of the nodes behind it
+module _ (c : Circuit) (n : ℕ) (v w : Wire) (rest : List (List Lit)) (found : Some (v, w) ≡ option_map operands (gate_at c n)) where
+  abbrev here : List (List Lit)
+  here = gate_clauses (n + 1) (literal_of c.inputs v) (literal_of c.inputs w) []
 
-  pub left_within : (get_or gs i none).left.node.0 ≤ most
-  left_within = omega (arith, both_below.0, ap length e, room)
+  abbrev behind : List (List Lit)
+  behind = gates_clauses c.inputs (drop (n + 1 - suc c.inputs) c.gates) (suc (n + 1)) rest
 
-  pub right_within : (get_or gs i none).right.node.0 ≤ most
-  right_within = omega (arith, both_below.1, ap length e, room)
+  clauses_parted : gates_clauses c.inputs (drop (n - suc c.inputs) c.gates) (suc n) rest ≡ here ++ behind
+  clauses_parted =
+      let g : Gate = record { left = v; right = w } in
+      let i = n - suc c.inputs in
+      let there = at_place c n g (gate_found (gate_at c n) v w found) in
+      let this : drop i c.gates ≡ g ∷ drop (suc i) c.gates = drop-cons c.gates i g (slice_get_within c.gates i g there.1) ∙ ap (λ x. x ∷ drop (suc i) c.gates) (get_or_from_slice_get c.gates i g g there.1) in
+      let next : suc i ≡ n + 1 - suc c.inputs = omega (arith, there.0) in
+      let number : suc n ≡ n + 1 = omega arith in
+      ap (λ gs. gates_clauses c.inputs gs (suc n) rest) this
+      ∙ ap (λ m. gates_clauses c.inputs (g ∷ drop (suc i) c.gates) m rest) number
+      ∙ ap (λ j. gates_clauses c.inputs (g ∷ drop j c.gates) (n + 1) rest) next
+
+  pub one_gate_more : (inputs : ℕ) (done more whole : List (List Lit)) → inputs ≡ c.inputs
+      → more ≡ done ++ gate_clauses (n + 1) (literal_of inputs v) (literal_of inputs w) []
+      → done ++ gates_clauses inputs (drop (n - suc inputs) c.gates) (suc n) rest ≡ whole
+      → more ++ gates_clauses inputs (drop (n + 1 - suc inputs) c.gates) (suc (n + 1)) rest ≡ whole
+  one_gate_more inputs done more whole e added so_far =
+      ap (λ k. more ++ gates_clauses k (drop (n + 1 - suc k) c.gates) (suc (n + 1)) rest) e
+      ∙ ap (λ l. l ++ behind) (added ∙ ap (λ k. done ++ gate_clauses (n + 1) (literal_of k v) (literal_of k w) []) e)
+      ∙ append_assoc done here behind
+      ∙ ap (λ l. done ++ l) (sym clauses_parted)
+      ∙ ap (λ k. done ++ gates_clauses k (drop (n - suc k) c.gates) (suc n) rest) (sym e)
+      ∙ so_far

@@ -3,8 +3,8 @@ ghost use Rattle.std.specs.Prelude.{◌≡◌, ◌≤◌, [], ◌∷◌, ◌++�
 ghost use Rattle.bddl_model.specs.Circuit as spec;
 ghost use Rattle.bddl_model.specs.Truth.{negation};
 
-use crate::circuit::Dag;
-use bddl_model::{Gate, Lit, LitList, NoMemory, NodeId, Var, Wire};
+use bddl_model::{Lit, LitList, NoMemory, NodeId, Var, Wire};
+use circuit_dag::Dag;
 use std::alloc::Global;
 
 /// The clauses that say that a wire of a circuit holds. An input's variable has its number; behind
@@ -13,14 +13,15 @@ pub fn circuit_clauses(alloc: Global, dag: &Dag, out: Wire) -> Result<Vec<LitLis
     requires { spec.IsWire dag.now out }
     ensures { IfOk result (λ clauses. clauses.items ≡ spec.circuit_clauses dag.now out) }
 {
+    dag.keeps_its_order();
     let inputs = dag.inputs();
-    let gates = dag.gates();
     let mut clauses = Vec::new(alloc);
     push_clause(alloc, &mut clauses, &[positive(inputs + 1)])?;
-    let mut variable = inputs + 2;
-    for gate in gates {
-        push_gate(alloc, &mut clauses, inputs, variable, gate)?;
-        variable += 1;
+    for node in inputs + 1..dag.len() {
+        let Some((left, right)) = dag.gate(NodeId(node)) else {
+            unreachable!()
+        };
+        push_gate(alloc, &mut clauses, inputs, node + 1, left, right)?;
     }
     push_clause(alloc, &mut clauses, &[literal_of(inputs, out)])?;
     Ok(clauses)
@@ -32,16 +33,17 @@ fn push_gate(
     clauses: &mut Vec<LitList>,
     inputs: u32,
     variable: u32,
-    gate: &Gate,
+    left: Wire,
+    right: Wire,
 ) -> Result<(), NoMemory>
     requires inputs { inputs ≤ 16777215 }
-    requires left { gate.now.left.node.0 ≤ 16777215 }
-    requires right { gate.now.right.node.0 ≤ 16777215 }
-    ensures { OnOk result (clauses.new.items ≡ clauses.old.items ++ spec.gate_clauses variable (spec.literal_of inputs gate.now.left) (spec.literal_of inputs gate.now.right) []) }
+    requires left { left.node.0 ≤ 16777215 }
+    requires right { right.node.0 ≤ 16777215 }
+    ensures { OnOk result (clauses.new.items ≡ clauses.old.items ++ spec.gate_clauses variable (spec.literal_of inputs left) (spec.literal_of inputs right) []) }
 {
     let own = positive(variable);
-    let left = literal_of(inputs, gate.left);
-    let right = literal_of(inputs, gate.right);
+    let left = literal_of(inputs, left);
+    let right = literal_of(inputs, right);
     push_clause(alloc, clauses, &[negation(own), left])?;
     push_clause(alloc, clauses, &[negation(own), right])?;
     push_clause(alloc, clauses, &[own, negation(left), negation(right)])
@@ -107,4 +109,38 @@ fn variable_of(inputs: u32, node: NodeId) -> u32
         return node.0;
     }
     node.0 + 1
+}
+
+#[cfg(test)]
+mod tests {
+    use super::*;
+    use std::test::Fail;
+
+    #[test]
+    fn a_gate_has_three_clauses(rt: HostRuntime) -> Result<(), Fail> {
+        let yes = |variable| Lit {
+            var: Var(variable),
+            negated: false,
+        };
+        let no = |variable| Lit {
+            var: Var(variable),
+            negated: true,
+        };
+        let mut dag = Dag::new(rt.alloc(), 2)?;
+        let no_second = dag.not(dag.input(2));
+        let both = dag.and(dag.input(1), no_second)?;
+        let clauses = circuit_clauses(rt.alloc(), &dag, both)?;
+        let wanted: [&[Lit]; 5] = [
+            &[yes(3)],
+            &[no(4), yes(1)],
+            &[no(4), no(2)],
+            &[yes(4), no(1), yes(2)],
+            &[yes(4)],
+        ];
+        assert_eq!(rt; clauses.len(), wanted.len());
+        for (clause, literals) in clauses.iter().zip(wanted) {
+            assert_eq!(rt; clause.as_slice(), literals);
+        }
+        Ok(())
+    }
 }

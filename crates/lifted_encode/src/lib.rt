@@ -6,7 +6,6 @@
 
 mod bits;
 mod board;
-mod circuit;
 mod clauses;
 mod inputs;
 mod number;

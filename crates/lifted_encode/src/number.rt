@@ -5,8 +5,8 @@ ghost use Rattle.bddl_model.specs.Bits.{number_at};
 ghost use Rattle.bddl_model.specs.Circuit.{nodes_of, IsWire, holds};
 ghost use Rattle.bddl_model.specs.Growth.{Grows};
 
-use crate::circuit::Dag;
 use bddl_model::{NoMemory, Span, Wire};
+use circuit_dag::Dag;
 
 /// Whether these inputs hold this number.
 pub fn is_number(dag: &mut Dag, word: Span, number: u32) -> Result<Wire, NoMemory>

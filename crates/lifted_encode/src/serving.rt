@@ -9,10 +9,10 @@ ghost use Rattle.lifted_encode.specs.Fixed.{names_cell, line_fits};
 ghost use Rattle.lifted_encode.specs.Serving.{agrees, serves, number_in, IsWord, IsBoard};
 
 use crate::board::Board;
-use crate::circuit::Dag;
 use crate::inputs::StartInputs;
 use crate::number::is_number;
 use bddl_model::{AtomList, AtomText, NoMemory, TermText, Wire};
+use circuit_dag::Dag;
 
 // The number that a term is.
 fn number_of(term: TermText) -> u32

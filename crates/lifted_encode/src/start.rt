@@ -9,11 +9,11 @@ ghost use Rattle.lifted_encode.specs.Forms.{formula_of};
 ghost use Rattle.bddl_model.specs.declared.formula.Quant.TheVariants.{Exists, All as for_all};
 
 use crate::board::start_board;
-use crate::circuit::Dag;
 use crate::clauses::circuit_clauses;
 use crate::inputs::StartInputs;
 use crate::serving::some_line_serves;
 use bddl_model::{Bound, LitList, NoMemory, ProblemText, Quant, Span, Var};
+use circuit_dag::Dag;
 use std::alloc::Global;
 
 /// A formula of a start position.
@@ -77,11 +77,12 @@ fn fixed_form(alloc: Global, problem: &ProblemText) -> Result<StartForm, NoMemor
     )?;
     let place = inputs.column.len + inputs.row.len;
     let claim = 1 + inputs.line.len + place;
-    let mut dag = Dag::new(alloc, claim + place);
+    let mut dag = Dag::new(alloc, claim + place)?;
     let out = some_line_serves(&mut dag, &board, inputs, lines)?;
-    let gates = dag.gates().len() as u32;
+    dag.keeps_its_order();
+    let behind_inputs = dag.len() - dag.inputs();
     Ok(StartForm {
-        prefix: start_prefix(alloc, claim, place, 1 + gates)?,
+        prefix: start_prefix(alloc, claim, place, behind_inputs)?,
         clauses: circuit_clauses(alloc, &dag, out)?,
     })
 }

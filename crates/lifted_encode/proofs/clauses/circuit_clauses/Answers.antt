@@ -1,8 +1,9 @@
-use Rattle.lifted_encode.proofs.ClauseLoop.{left_within, right_within}
+use Rattle.std.proofs.Common.{arith}
+use Rattle.lifted_encode.proofs.ClauseLoop.{one_gate_more}
 use Rattle.lifted_encode.proofs.clauses.circuit_clauses.Goals as goal
 
-pub push_gate-requires-clause-left : goal.push_gate-requires-clause-left
-push_gate-requires-clause-left c = let known = c.gates-gates.ensures in left_within c.args.dag.now _ _ _ _ known.gates known.order known.nodes c.loop-gate-test.true
-
-pub push_gate-requires-clause-right : goal.push_gate-requires-clause-right
-push_gate-requires-clause-right c = let known = c.gates-gates.ensures in right_within c.args.dag.now _ _ _ _ known.gates known.order known.nodes c.loop-gate-test.true
+pub loop-node-preserved : goal.loop-node-preserved
+loop-node-preserved c = record {
+  least = omega (arith, c.loop-node.invariant.least);
+  rest = one_gate_more c.args.dag.now c.loop-node.node c.in-Some.left c.in-Some.right _ c.in-Some.ensures.operands c.inputs-inputs.result _ _ _ c.inputs-inputs.ensures c.in_ok-push_gate.ensures c.loop-node.invariant.rest;
+}

@@ -1,0 +1,5 @@
+pub mod Items
+pub mod Comparing
+pub mod Adding
+pub mod Turns
+pub mod ShortWords

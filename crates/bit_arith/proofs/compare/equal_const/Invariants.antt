@@ -1,0 +1,13 @@
+use Rattle.std.proofs.Common.{◌≡◌, ◌&&◌, ◌==◌, drop}
+use Rattle.bddl_model.specs.Truth.{Assignment}
+use Rattle.bddl_model.specs.Circuit.{IsWire, holds}
+use Rattle.bddl_model.specs.Growth.{Grows}
+use Rattle.bddl_model.specs.Words.{word_value}
+use Rattle.bit_arith.proofs.compare.equal_const.Given as goal
+
+abbrev pub invariant-bits : goal.invariant-bits
+invariant-bits l = record {
+  wire : IsWire l.dag l.all;
+  grows : Grows l.wire-index l.initial.dag l.dag;
+  value : (v : Assignment) → (holds l.dag l.all v && (word_value l.initial.dag (drop l.wire-index l.a) v == l.rest)) ≡ (word_value l.initial.dag l.a v == l.fn.k);
+}

@@ -1,0 +1,101 @@
+// Comparisons of words with words and with numbers.
+ghost use Rattle.std.specs.Prelude.{◌≡◌, ◌+◌, ◌*◌, ◌≤◌, ◌==◌, nat_le, ◌&&◌, length, IfOk};
+ghost use Rattle.std.specs.Bool.{beq};
+ghost use Rattle.bddl_model.specs.Truth.{Assignment};
+ghost use Rattle.bddl_model.specs.Circuit.{nodes_of, IsWire, holds};
+ghost use Rattle.bddl_model.specs.Growth.{Grows};
+ghost use Rattle.bddl_model.specs.Words.{AreWires, word_value};
+
+use crate::gates::{join, same, signed};
+use bddl_model::{NoMemory, Wire};
+use circuit_dag::Dag;
+
+/// A wire that holds where two words of one length are the same number.
+pub fn equal(dag: &mut Dag, a: &[Wire], b: &[Wire]) -> Result<Wire, NoMemory>
+    requires a { AreWires dag.old a.now }
+    requires b { AreWires dag.old b.now }
+    requires lengths { length a.now ≡ length b.now }
+    requires room { nodes_of dag.old + 4 * length a.now ≤ 16777215 }
+    ensures wire { IfOk result (λ w. IsWire dag.new w) }
+    ensures value { IfOk result (λ w. (v : Assignment) → holds dag.new w v ≡ (word_value dag.old a.now v == word_value dag.old b.now v)) }
+    ensures grows { Grows (4 * length a.now) dag.old dag.new }
+{
+    let mut all = dag.truth();
+    'bits: for i in 0..a.len() {
+        all = also_same(dag, all, a[i], b[i])?;
+    }
+    Ok(all)
+}
+
+/// A wire that holds where another does and two wires hold the same.
+fn also_same(dag: &mut Dag, all: Wire, left: Wire, right: Wire) -> Result<Wire, NoMemory>
+    requires all { IsWire dag.old all }
+    requires left { IsWire dag.old left }
+    requires right { IsWire dag.old right }
+    requires room { nodes_of dag.old + 4 ≤ 16777215 }
+    ensures wire { IfOk result (λ w. IsWire dag.new w) }
+    ensures value { IfOk result (λ w. (v : Assignment) → holds dag.new w v ≡ (holds dag.old all v && beq (holds dag.old left v) (holds dag.old right v))) }
+    ensures grows { Grows 4 dag.old dag.new }
+{
+    let bit = same(dag, left, right)?;
+    dag.and(all, bit)
+}
+
+/// A wire that holds where a word is a number.
+pub fn equal_const(dag: &mut Dag, a: &[Wire], k: u32) -> Result<Wire, NoMemory>
+    requires a { AreWires dag.old a.now }
+    requires room { nodes_of dag.old + length a.now ≤ 16777215 }
+    ensures wire { IfOk result (λ w. IsWire dag.new w) }
+    ensures value { IfOk result (λ w. (v : Assignment) → holds dag.new w v ≡ (word_value dag.old a.now v == k)) }
+    ensures grows { Grows (length a.now) dag.old dag.new }
+{
+    let mut all = dag.truth();
+    let mut rest = k;
+    'bits: for wire in a {
+        let bit = signed(dag, rest % 2 == 1, *wire);
+        all = dag.and(all, bit)?;
+        rest = rest / 2;
+    }
+    if rest == 0 {
+        return Ok(all);
+    }
+    let truth = dag.truth();
+    Ok(dag.not(truth))
+}
+
+/// A wire that holds where a word is at least a number.
+pub fn at_least(dag: &mut Dag, a: &[Wire], k: u32) -> Result<Wire, NoMemory>
+    requires a { AreWires dag.old a.now }
+    requires room { nodes_of dag.old + length a.now ≤ 16777215 }
+    ensures wire { IfOk result (λ w. IsWire dag.new w) }
+    ensures value { IfOk result (λ w. (v : Assignment) → holds dag.new w v ≡ nat_le k (word_value dag.old a.now v)) }
+    ensures grows { Grows (length a.now) dag.old dag.new }
+{
+    let mut reached = dag.truth();
+    let mut rest = k;
+    'bits: for wire in a {
+        reached = join(dag, rest % 2 == 1, reached, *wire)?;
+        rest = rest / 2;
+    }
+    if rest == 0 {
+        return Ok(reached);
+    }
+    let truth = dag.truth();
+    Ok(dag.not(truth))
+}
+
+/// A wire that holds where a word of at most 16 wires is at most a number.
+pub fn at_most(dag: &mut Dag, a: &[Wire], k: u32) -> Result<Wire, NoMemory>
+    requires a { AreWires dag.old a.now }
+    requires short { length a.now ≤ 16 }
+    requires room { nodes_of dag.old + length a.now ≤ 16777215 }
+    ensures wire { IfOk result (λ w. IsWire dag.new w) }
+    ensures value { IfOk result (λ w. (v : Assignment) → holds dag.new w v ≡ nat_le (word_value dag.old a.now v) k) }
+    ensures grows { Grows (length a.now) dag.old dag.new }
+{
+    if k >= 65_535 {
+        return Ok(dag.truth());
+    }
+    let more = at_least(dag, a, k + 1)?;
+    Ok(dag.not(more))
+}

@@ -1,0 +1,18 @@
+//! Words of wires, least bit first, that compute plain numbers.
+//!
+//! Each call answers wires that hold, under every assignment of the inputs, exactly what its clause
+//! `value` says of numbers. The clause `grows` says how many gates may come, also where memory is
+//! wanting. Read `Words.antt` and `Growth.antt` in `bddl_model/specs` first.
+#![tactic(auto)]
+
+mod compare;
+mod gates;
+mod many;
+mod sum;
+#[cfg(test)]
+mod tests;
+
+pub use compare::{at_least, at_most, equal, equal_const};
+pub use gates::{choose, or};
+pub use many::{all_of, any_of};
+pub use sum::add_const;

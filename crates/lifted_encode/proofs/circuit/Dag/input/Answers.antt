@@ -1,6 +1,0 @@
-use Rattle.std.proofs.Common.{refl}
-use Rattle.bddl_model.proofs.Growth.{input_held}
-use Rattle.lifted_encode.proofs.circuit.Dag.input.Goals as goal
-
-pub returns-clause-value : goal.returns-clause-value
-returns-clause-value c a = input_held c.args.self.now _ a c.requires.0 c.requires.1 refl

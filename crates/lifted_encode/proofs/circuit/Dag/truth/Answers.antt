@@ -1,6 +1,0 @@
-use Rattle.std.proofs.Common.{refl}
-use Rattle.bddl_model.proofs.Growth.{truth_held}
-use Rattle.lifted_encode.proofs.circuit.Dag.truth.Goals as goal
-
-pub returns-clause-value : goal.returns-clause-value
-returns-clause-value c a = truth_held c.args.self.now _ a refl
