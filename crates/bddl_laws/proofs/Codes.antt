@@ -1,8 +1,6 @@
 -- Each legal move has a code, and a code is read from its own bits.
-use Rattle.std.proofs.Common.{◌≡◌, ℕ, ◌≤◌, ◌<◌, ◌+◌, ◌-◌, ◌^◌, true, false, List, [], ◌∷◌, ◌++◌, length, ◌⊎◌, inl, inr, refl, sym, ap, ap₂, ◌∙◌, subst, arith, Option, Some, None}
-use Rattle.std.specs.Prelude.{slice_get}
+use Rattle.std.proofs.Common.{◌≡◌, ℕ, ◌≤◌, ◌<◌, ◌+◌, ◌-◌, ◌^◌, true, false, List, [], ◌∷◌, length, ◌⊎◌, inl, inr, refl, sym, ap, ap₂, ◌∙◌, subst, arith}
 use Rattle.std.proofs.lemmas.Bool.{and_parts, leb-true, false≢true}
-use Rattle.std.proofs.lemmas.Option.{slice_get_within}
 use Rattle.bddl_model.specs.declared.formula.Quant.{Quant}
 use Rattle.bddl_model.specs.declared.game.Side.{Side}
 use Rattle.bddl_model.specs.declared.game.Atom.{Atom}
@@ -13,12 +11,13 @@ use Rattle.bddl_model.specs.Game.{Game, Action, actions}
 use Rattle.bddl_model.specs.Board.{Board}
 use Rattle.bddl_model.specs.Fitting.{on_side, fits, on_board}
 use Rattle.std.specs.List.{list_all}
-use Rattle.bddl_model.specs.Moves.{legal, legal_with}
+use Rattle.bddl_model.specs.Moves.{legal}
 use Rattle.bddl_model.specs.Layout.{bounds, span, code_bits, anchor_bits}
 use Rattle.bddl_model.specs.Exact.{coded_move}
 use Rattle.bddl_model.proofs.Assignments.{SameOutside, same_at_all}
 use Rattle.bddl_model.proofs.Blocks.{SameBelow, outside_wider}
 use Rattle.bddl_model.proofs.Bits.{bits_enough}
+use Rattle.bddl_model.proofs.Codes.{legal_is_in_range, in_range_is_placed}
 use Rattle.bddl_model.proofs.Numbers.{number_same, number_kept, writes_number}
 
 -- ---- numbers written one after the other
@@ -72,20 +71,6 @@ fits_parts width height atoms x y h =
 
 -- ---- codes
 
-record IsPlaced (g : Game) (side : Side) (m : Move) : Type 0 where
-  action : m.action < length (actions g side)
-  column : on_side g.width m.x ≡ true
-  row : on_side g.height m.y ≡ true
-
-legal_is_placed : (g : Game) (board : Board) (side : Side) (m : Move) → legal g board side m ≡ true → IsPlaced g side m
-legal_is_placed g board side m h = at (slice_get (actions g side) m.action) refl h
-  where
-    at : (found : Option Action) → slice_get (actions g side) m.action ≡ found → legal_with g board found m.x m.y ≡ true → IsPlaced g side m
-    at None is may = absurd (false≢true may)
-    at (Some act) is may =
-        let f = fits_parts g.width g.height (act.before ++ act.effects) m.x m.y (and_parts (fits g.width g.height (act.before ++ act.effects) m.x m.y) _ may).0 in
-        record { action = slice_get_within (actions g side) m.action act is; column = f.0; row = f.1 }
-
 named : (m : Move) (action x y : ℕ) → action ≡ m.action → x + 1 ≡ m.x → y + 1 ≡ m.y → record { action = action; x = x + 1; y = y + 1 } ≡ m
 named m action x y e f h = ap₂ (λ i j. record { action = i; x = j; y = y + 1 }) e f ∙ ap (λ j. record { action = m.action; x = m.x; y = j }) h
 
@@ -96,14 +81,12 @@ code_bits_of g (a ∷ more) h = refl
 pub writes_code : (g : Game) (q : Quant) (side : Side) (v n : ℕ) (board : Board) (a : Assignment) (m : Move) → legal g board side m ≡ true
     → (b : Assignment) × SameOutside (bounds q v (code_bits g (actions g side))) a b × (coded_move g side b (span v n) ≡ m)
 writes_code g q side v n board a m l =
-    let p = legal_is_placed g board side m l in
+    let p = in_range_is_placed g side m (legal_is_in_range g side m board l) in
     let count = bits_enough (length (actions g side)) in
     let size = code_bits_of g (actions g side) (omega (arith, p.action)) in
     let parts : List (ℕ × ℕ) = (bits (length (actions g side)), m.action) ∷ (bits g.width, m.x - 1) ∷ (bits g.height, m.y - 1) ∷ [] in
-    let b = writes_numbers q (code_bits g (actions g side)) v parts a (omega (arith, size)) (omega (arith, p.action, count), (side_fits g.width m.x p.column, (side_fits g.height m.y p.row, tt))) in
-    let x = on_side_is g.width m.x p.column in
-    let y = on_side_is g.height m.y p.row in
-    (b.0, b.1, named m _ _ _ b.2.0 (omega (arith, b.2.1.0, x)) (omega (arith, b.2.1.1.0, y)))
+    let b = writes_numbers q (code_bits g (actions g side)) v parts a (omega (arith, size)) (omega (arith, p.action, count), (omega (arith, p.column, bits_enough g.width), (omega (arith, p.row, bits_enough g.height), tt))) in
+    (b.0, b.1, named m _ _ _ b.2.0 (omega (arith, b.2.1.0, p.column)) (omega (arith, b.2.1.1.0, p.row)))
 
 -- the same move, unless the side has no action
 pub code_same : (g : Game) (side : Side) (v n : ℕ) (a b : Assignment) → SameBelow (v + code_bits g (actions g side)) a b

@@ -5,21 +5,17 @@ use Rattle.std.proofs.Math.Seq.{drop-nil}
 use Rattle.bddl_model.specs.declared.formula.Quant.{Quant}
 use Rattle.bddl_model.specs.declared.formula.Quant.TheVariants.{Exists, All}
 use Rattle.bddl_model.specs.declared.formula.Bound.{Bound}
-use Rattle.bddl_model.specs.declared.formula.Block.{Block}
 use Rattle.bddl_model.specs.declared.game.Side.{Side}
 use Rattle.bddl_model.specs.declared.game.Side.TheVariants.{Black, White}
 use Rattle.bddl_model.specs.Game.{opponent}
 use Rattle.bddl_model.specs.Setup.{Setup}
 use Rattle.bddl_model.specs.Layout.{Sizes, sizes_of, plies_end, ply_at, end, plies_blocks, blocks, bounds, prefix_of}
 use Rattle.bddl_model.specs.Encoding.{side_of, layout_of}
+use Rattle.bddl_model.proofs.Covering.{prefix_of-append}
 use Rattle.bddl_laws.proofs.Claiming.{closing}
 use Rattle.bddl_laws.proofs.ExactGame.{plies_prefix}
 use Rattle.bddl_laws.proofs.Played.{ply_end_is_later, plies_end_is_later}
 use Rattle.bddl_laws.proofs.ClosingInputs.{claim_span, attack_span}
-
-prefix_of-append : (bs cs : List Block) → prefix_of (bs ++ cs) ≡ prefix_of bs ++ prefix_of cs
-prefix_of-append [] cs = refl
-prefix_of-append (b ∷ bs) cs = ap (λ l. bounds b.quant b.span.from b.span.len ++ l) (prefix_of-append bs cs) ∙ sym (append_assoc (bounds b.quant b.span.from b.span.len) (prefix_of bs) (prefix_of cs))
 
 abbrev pub closing_prefix : Setup → List Bound
 closing_prefix s = closing (claim_span s) (attack_span s) (layout_of s).refuting (layout_of s).place

@@ -19,7 +19,9 @@ use Rattle.bddl_model.specs.Rectangle.{rect_of}
 use Rattle.bddl_model.specs.Moves.{legal, moves}
 use Rattle.bddl_model.specs.Win.{win}
 use Rattle.bddl_model.specs.Bits.{bits}
-use Rattle.bddl_model.specs.Layout.{layout, blocks, prefix_of, bounds}
+use Rattle.bddl_model.specs.Layout.{layout, block, blocks, prefix_of, bounds, span}
+use Rattle.bddl_model.specs.Codes.{code, spelled_move, in_range}
+use Rattle.bddl_model.specs.Prenex.{merged}
 use Rattle.bddl_model.specs.FormulaWords.{words_of, last_line, token_of, number, other, quantifier}
 use Rattle.bddl_model.specs.Qdimacs.{form_of}
 use Rattle.bddl_model.specs.Circuit.{Circuit, circuit_clauses}
@@ -186,6 +188,30 @@ inputs_of_a_start_board = refl
 inputs_of_one_cell : (layout (without_actions 1 1 [] []) Black 0).inputs ≡ 1
 unfolding bits
 inputs_of_one_cell = refl
+
+-- ---- moves as bits
+
+-- three actions on five columns and two rows: two bits, three and one
+code_of_the_last_action : code (record { actions = 3; width = 5; height = 2 }) (record { action = 2; x = 4; y = 2 }) ≡ false ∷ true ∷ true ∷ true ∷ false ∷ true ∷ []
+unfolding bits
+code_of_the_last_action = refl
+
+move_of_all_bits : spelled_move (record { actions = 3; width = 5; height = 2 }) (replicate 6 true) ≡ record { action = 3; x = 8; y = 2 }
+unfolding bits
+move_of_all_bits = refl
+
+moves_in_range_on_two_by_three : map (λ m. in_range (occupying 2 3 [] []) Black m) (record { action = 0; x = 2; y = 3 } ∷ record { action = 1; x = 1; y = 1 } ∷ record { action = 0; x = 3; y = 1 } ∷ []) ≡ true ∷ false ∷ false ∷ []
+moves_in_range_on_two_by_three = refl
+
+-- ---- blocks
+
+-- the sample of the first ply of White joins the code of Black's before it; its code has no neighbour of its quantifier
+merged_blocks_of_three_plies : merged (blocks (layout (occupying 2 2 (across ∷ down ∷ []) []) Black 3)) ≡ block Exists (span 1 4) ∷ block All (span 5 2) ∷ block Exists (span 7 8) ∷ block All (span 15 2) ∷ []
+unfolding bits
+merged_blocks_of_three_plies = refl
+
+blocks_without_variables : merged (block All (span 1 0) ∷ block Exists (span 1 2) ∷ block All (span 3 0) ∷ block Exists (span 3 1) ∷ block All (span 4 0) ∷ []) ≡ block Exists (span 1 3) ∷ []
+blocks_without_variables = refl
 
 -- ---- texts of formulas
 

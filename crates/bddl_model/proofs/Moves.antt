@@ -1,19 +1,19 @@
 -- A legal move is in the list of moves, and a move keeps the board's size.
-use Rattle.std.proofs.Common.{◌≡◌, ℕ, zero, suc, ◌+◌, ◌-◌, ◌≤◌, ◌<◌, Bool, true, false, cond, List, [], ◌∷◌, ◌++◌, map, length, ◌⊎◌, inl, inr, refl, sym, ap, subst, ◌∙◌, arith}
-use Rattle.std.specs.Prelude.{◌&&◌, filter, flat_map, Contains, slice_get, Option, None, Some}
-use Rattle.std.specs.List.{list_all, range_with_len}
-use Rattle.std.proofs.lemmas.Bool.{and_parts, leb-true, false≢true}
+use Rattle.std.proofs.Common.{◌≡◌, ℕ, zero, suc, ◌+◌, ◌-◌, ◌≤◌, ◌<◌, Bool, true, false, cond, List, [], ◌∷◌, map, length, ◌⊎◌, inl, inr, refl, sym, ap, subst, ◌∙◌, arith}
+use Rattle.std.specs.Prelude.{filter, flat_map, Contains, slice_get}
+use Rattle.std.specs.List.{range_with_len}
 use Rattle.std.proofs.lemmas.List.{length-set, length-map, get_or-map}
 use Rattle.std.proofs.lemmas.List.Elements.{Contains-append_left, Contains-append_right}
 use Rattle.std.proofs.lemmas.List.FromFn.{length-range_with_len, get_or-range_with_len}
-use Rattle.std.proofs.lemmas.Option.{slice_get_within}
 use Rattle.bddl_model.specs.declared.game.Side.{Side}
 use Rattle.bddl_model.specs.declared.game.Atom.{Atom}
 use Rattle.bddl_model.specs.declared.game.Move.{Move}
-use Rattle.bddl_model.specs.Game.{Game, Action, actions}
+use Rattle.bddl_model.specs.Game.{Game, actions}
 use Rattle.bddl_model.specs.Board.{Board, with_mark}
-use Rattle.bddl_model.specs.Fitting.{led, on_side, on_board, fits}
-use Rattle.bddl_model.specs.Moves.{legal_with, legal, written, after, effects_of, all_moves, moves}
+use Rattle.bddl_model.specs.Fitting.{led}
+use Rattle.bddl_model.specs.Moves.{legal, written, after, effects_of, all_moves, moves}
+use Rattle.bddl_model.specs.Codes.{shape_of, IsPlaced}
+use Rattle.bddl_model.proofs.Codes.{legal_is_in_range, in_range_is_placed}
 
 -- ---- what a list contains
 
@@ -51,43 +51,16 @@ Contains-filter p (z ∷ zs) x among h = elim (Contains-cases z x zs among) [
 
 -- ---- moves
 
--- a legal move's action is one of the side's, and its anchor is on the board
-record IsPlaced (g : Game) (side : Side) (m : Move) : Type 0 where
-  pub action : m.action < length (actions g side)
-  pub column : on_side g.width m.x ≡ true
-  pub row : on_side g.height m.y ≡ true
-
-legal_is_placed : (g : Game) (board : Board) (side : Side) (m : Move) → legal g board side m ≡ true → IsPlaced g side m
-legal_is_placed g board side m h = at (slice_get (actions g side) m.action) refl h
-  where
-    at : (found : Option Action) → slice_get (actions g side) m.action ≡ found → legal_with g board found m.x m.y ≡ true → IsPlaced g side m
-    at None is none = absurd (false≢true none)
-    at (Some a) is may =
-        let fit = (and_parts (fits g.width g.height (a.before ++ a.effects) m.x m.y) _ may).0 in
-        let anchor = and_parts (on_side g.width m.x) (on_side g.height m.y && list_all (on_board g.width g.height m.x m.y) (a.before ++ a.effects)) fit in
-        record {
-          action = slice_get_within (actions g side) m.action a is;
-          column = anchor.0;
-          row = (and_parts (on_side g.height m.y) _ anchor.1).0;
-        }
-
-numbers_of_side : (side n : ℕ) → on_side side n ≡ true → Contains (range_with_len 1 side) n
-numbers_of_side side n on =
-    let parts = and_parts _ _ on in
-    let low = leb-true 1 n parts.0 in
-    let high = leb-true n side parts.1 in
-    Contains-range 1 side n low (omega arith)
-
-placed_is_a_move : (g : Game) (side : Side) (m : Move) → IsPlaced g side m → Contains (all_moves g side) m
+placed_is_a_move : (g : Game) (side : Side) (m : Move) → IsPlaced (shape_of g side) m → Contains (all_moves g side) m
 placed_is_a_move g side m placed =
     let number : Contains (range_with_len 0 (length (actions g side))) m.action = Contains-range 0 _ m.action (omega arith) (omega (arith, placed.action)) in
     let row = λ (a : ℕ) (y : ℕ). map (λ x. record { action = a; x = x; y = y }) (range_with_len 1 g.width) in
-    let in_row = Contains-map (λ x. record { action = m.action; x = x; y = m.y }) (range_with_len 1 g.width) m.x (numbers_of_side g.width m.x placed.column) in
-    let in_rows = Contains-flat_map (row m.action) (range_with_len 1 g.height) m.y m (numbers_of_side g.height m.y placed.row) in_row in
+    let in_row = Contains-map (λ x. record { action = m.action; x = x; y = m.y }) (range_with_len 1 g.width) m.x (Contains-range 1 g.width m.x placed.column.0 (omega (arith, placed.column))) in
+    let in_rows = Contains-flat_map (row m.action) (range_with_len 1 g.height) m.y m (Contains-range 1 g.height m.y placed.row.0 (omega (arith, placed.row))) in_row in
     Contains-flat_map (λ a. flat_map (row a) (range_with_len 1 g.height)) (range_with_len 0 (length (actions g side))) m.action m number in_rows
 
 pub legal_moves_are_listed : (g : Game) (board : Board) (side : Side) (m : Move) → legal g board side m ≡ true → Contains (moves g board side) m
-legal_moves_are_listed g board side m h = Contains-filter (legal g board side) (all_moves g side) m (placed_is_a_move g side m (legal_is_placed g board side m h)) h
+legal_moves_are_listed g board side m h = Contains-filter (legal g board side) (all_moves g side) m (placed_is_a_move g side m (in_range_is_placed g side m (legal_is_in_range g side m board h))) h
 
 length-written : (g : Game) (x y : ℕ) (atoms : List Atom) (board : Board) → length (written g x y atoms board) ≡ length board
 length-written g x y [] board = refl

@@ -16,7 +16,7 @@ use Rattle.bddl_model.proofs.PlainTokens.{in_range_is, plain_says}
 
 -- ---- the prefix
 
-quants_same : (q r : Quant) → same_quant q r ≡ true → q ≡ r
+pub quants_same : (q r : Quant) → same_quant q r ≡ true → q ≡ r
 quants_same Exists Exists h = refl
 quants_same All All h = refl
 quants_same Exists All h = absurd cc

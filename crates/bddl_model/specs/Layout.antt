@@ -151,10 +151,12 @@ plies_blocks (p ∷ ps) = ply_blocks p.side p ++ plies_blocks ps
 abbrev pub from_to : Span → Span → Span
 from_to a b = span a.from (end b - a.from)
 
+-- behind those of the plies: the claim, White's goal, what refutes it, and the place
+abbrev pub claim_blocks : Inputs → List Block
+claim_blocks l = block Exists (from_to l.kind l.atom) ∷ block All (from_to l.white_line l.white_time) ∷ block Exists l.refuting ∷ block All l.place ∷ []
+
 abbrev pub blocks : Inputs → List Block
-blocks l =
-    plies_blocks l.plies
-    ++ block Exists (from_to l.kind l.atom) ∷ block All (from_to l.white_line l.white_time) ∷ block Exists l.refuting ∷ block All l.place ∷ []
+blocks l = plies_blocks l.plies ++ claim_blocks l
 
 -- so many variables from v on
 abbrev pub bounds : Quant → ℕ → ℕ → List Bound

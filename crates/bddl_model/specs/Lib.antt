@@ -27,6 +27,8 @@ pub mod Start
 pub mod Check
 pub mod Bits
 pub mod Layout
+pub mod Codes
+pub mod Prenex
 pub mod CircuitValues
 pub mod Dual
 pub mod Fine

@@ -1,3 +1,7 @@
+ghost use Rattle.std.specs.Prelude.{◌≡◌};
+ghost use Rattle.bddl_model.specs.Circuit as circuit;
+ghost use Rattle.bddl_model.specs.Truth as truth;
+
 use crate::Items;
 
 /// A variable of a formula, from 1 on.
@@ -5,10 +9,32 @@ use crate::Items;
 pub struct Var(pub u32);
 
 /// A variable, or its negation.
-#[derive(Clone, Copy, Debug, PartialEq, Eq)]
+#[derive(Clone, Copy, Debug, PartialEq, Eq, Hash)]
 pub struct Lit {
     pub var: Var,
     pub negated: bool,
+}
+
+impl Lit {
+    /// The variable itself.
+    pub fn positive(var: Var) -> Lit
+        ensures { result ≡ circuit.positive var.0 }
+    {
+        Lit {
+            var,
+            negated: false,
+        }
+    }
+
+    /// The opposite literal.
+    pub fn negation(self) -> Lit
+        ensures { result ≡ truth.negation self }
+    {
+        Lit {
+            var: self.var,
+            negated: !self.negated,
+        }
+    }
 }
 
 pub type LitList = Items<Lit>;

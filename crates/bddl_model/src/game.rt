@@ -1,9 +1,24 @@
+ghost use Rattle.std.specs.Prelude.{◌≡◌};
+ghost use Rattle.bddl_model.specs.Game as game;
+
 use crate::Span;
 
 #[derive(Clone, Copy, Debug, PartialEq, Eq)]
 pub enum Side {
     Black,
     White,
+}
+
+impl Side {
+    /// The other side.
+    pub fn opponent(self) -> Side
+        ensures { result ≡ game.opponent self }
+    {
+        match self {
+            Side::Black => Side::White,
+            Side::White => Side::Black,
+        }
+    }
 }
 
 /// What a cell holds. `Free` is the mark of an open cell.

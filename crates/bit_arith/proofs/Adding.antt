@@ -3,12 +3,8 @@ use Rattle.std.proofs.Common.{◌≡◌, ℕ, zero, suc, ◌<◌, ◌+◌, ◌*�
 use Rattle.std.proofs.lemmas.Bool.{cases_eq}
 use Rattle.std.proofs.Math.Nat.{add-mul-mod_self_left, mod-eq_of_lt}
 use Rattle.bddl_model.specs.Words.{number_of_bits}
+use Rattle.bddl_model.proofs.Codes.{bits_below}
 use Rattle.bit_arith.specs.Digits.{digit}
-
-pub number_below : (bs : List Bool) → number_of_bits bs < 2 ^ length bs
-number_below [] = omega arith
-number_below (true ∷ bs) = rw (pow-suc 2 (length bs)) (omega (arith, number_below bs))
-number_below (false ∷ bs) = rw (pow-suc 2 (length bs)) (omega (arith, number_below bs))
 
 pub number-push : (bs : List Bool) (b : Bool) → number_of_bits (bs ++ b ∷ []) ≡ number_of_bits bs + 2 ^ length bs * digit b
 number-push [] true = refl
@@ -38,4 +34,4 @@ sum_turn p written total c m k s c' b m' h e d =
 -- what is written once all digits are
 pub sum_end : (bs : List Bool) (w i rest total : ℕ) → i ≡ w → length bs ≡ i → number_of_bits bs + 2 ^ i * rest ≡ total → number_of_bits bs ≡ total % 2 ^ w
 sum_end bs w i rest total s l e =
-    sym (ap (λ n. total % 2 ^ n) (sym s) ∙ ap (λ n. n % 2 ^ i) (sym e) ∙ add-mul-mod_self_left (number_of_bits bs) (2 ^ i) rest ∙ mod-eq_of_lt (subst (λ n. number_of_bits bs < 2 ^ n) l (number_below bs)))
+    sym (ap (λ n. total % 2 ^ n) (sym s) ∙ ap (λ n. n % 2 ^ i) (sym e) ∙ add-mul-mod_self_left (number_of_bits bs) (2 ^ i) rest ∙ mod-eq_of_lt (subst (λ n. number_of_bits bs < 2 ^ n) l (bits_below bs)))

@@ -1,4 +1,3 @@
-pub mod Items
 pub mod Comparing
 pub mod Adding
 pub mod Turns

@@ -6,14 +6,14 @@ use Rattle.bddl_model.specs.declared.circuit.Wire.{Wire}
 use Rattle.bddl_model.specs.Truth.{Assignment}
 use Rattle.bddl_model.specs.Circuit.{Circuit, holds}
 use Rattle.bddl_model.specs.Words.{word_bits, word_value}
-use Rattle.bit_arith.proofs.Adding.{number_below}
+use Rattle.bddl_model.proofs.Codes.{bits_below}
 
 power_short : (n : ℕ) → n ≤ 16 → 2 ^ n ≤ 2 ^ 16
 power_short n h = pow-le-pow_right {n = 2} (omega arith) h
 
 pub short_word : (c : Circuit) (ws : List Wire) (a : Assignment) → length ws ≤ 16 → word_value c ws a ≤ 65535
 short_word c ws a h =
-    let below = number_below (word_bits c ws a) in
+    let below = bits_below (word_bits c ws a) in
     let same = length-map ws (λ w. holds c w a) in
     let most = power_short (length ws) h in
     omega (arith, ap (λ n. 2 ^ n) same)

@@ -10,7 +10,7 @@ use Rattle.bddl_model.specs.Growth.{Grows}
 use Rattle.bddl_model.specs.Words.{AreWires, word_bits, number_of_bits, word_value}
 use Rattle.bddl_model.proofs.WireWords.{word_kept}
 use Rattle.bit_arith.specs.Digits.{digit}
-use Rattle.bit_arith.proofs.Items.{item_wire, next_bits}
+use Rattle.bddl_model.proofs.WireItems.{item_wire, next_bits}
 use Rattle.bit_arith.proofs.Comparing.{equal_odd, equal_digits, reached_by_bit}
 use Rattle.bit_arith.proofs.Adding.{number-push, number-drop, digit_odd, sum_turn}
 

@@ -8,7 +8,7 @@ use Rattle.bddl_model.specs.Board.{Board}
 use Rattle.bddl_model.specs.Fitting.{fits}
 use Rattle.bddl_model.specs.Game.{Game, actions, action_at}
 use Rattle.bddl_model.specs.Moves.{legal_with, legal, effects_of, written, after}
-use Rattle.grid_game.proofs.Anchors.{fits_second}
+use Rattle.bddl_model.proofs.Anchors.{fits_second}
 
 has_action : (g : Game) (board : Board) (side : Side) (m : Move) → legal g board side m ≡ true → m.action < length (actions g side)
 has_action g board side m l = elim (cases_lt m.action (length (actions g side))) [

@@ -1,15 +1,9 @@
 -- Cells of a board.
-use Rattle.std.proofs.Common.{◌≡◌, ℕ, ◌-◌, ◌*◌, ◌<◌, ◌≤◌, true, arith}
-use Rattle.std.proofs.lemmas.Bool.{and_parts, leb-true}
+use Rattle.std.proofs.Common.{◌≡◌, ℕ, ◌-◌, ◌*◌, ◌<◌, true, arith}
 use Rattle.std.proofs.lemmas.Nat.{mul-add-lt}
 use Rattle.bddl_model.specs.Board.{index}
 use Rattle.bddl_model.specs.Fitting.{on_side}
-
-pub on_side_low : (side n : ℕ) → on_side side n ≡ true → 1 ≤ n
-on_side_low side n h = leb-true 1 n (and_parts _ _ h).0
-
-pub on_side_high : (side n : ℕ) → on_side side n ≡ true → n ≤ side
-on_side_high side n h = leb-true n side (and_parts _ _ h).1
+use Rattle.bddl_model.proofs.Anchors.{on_side_low, on_side_high}
 
 pub index_below : (width height x y : ℕ) → on_side width x ≡ true → on_side height y ≡ true → index width x y < height * width
 index_below width height x y column row =

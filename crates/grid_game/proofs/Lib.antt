@@ -1,6 +1,5 @@
 pub mod KeptItems
 pub mod Cells
-pub mod Anchors
 pub mod Actions
 pub mod Ranges
 pub mod Rows

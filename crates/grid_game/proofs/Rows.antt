@@ -10,8 +10,8 @@ use Rattle.bddl_model.specs.Game.{Game}
 use Rattle.bddl_model.specs.Goal.{holds_from, line_holds}
 use Rattle.bddl_model.specs.Limits.{IsBoardOf}
 use Rattle.bddl_model.specs.Rectangle.{IsRectOf}
-use Rattle.grid_game.proofs.Anchors.{InRect, in_rect_fits, fits_in_rect, anchor_on_board}
-use Rattle.grid_game.proofs.Cells.{on_side_low, on_side_high}
+use Rattle.bddl_model.proofs.Anchors.{InRect, in_rect_fits, fits_in_rect, anchor_on_board}
+use Rattle.bddl_model.proofs.Anchors.{on_side_low, on_side_high}
 use Rattle.grid_game.proofs.Ranges.{some_in_range, none_in_range}
 
 abbrev pub row_holds : Game → Board → List Atom → ℕ → Bool

@@ -1,7 +1,6 @@
 // The clauses of a circuit.
 ghost use Rattle.std.specs.Prelude.{◌≡◌, ◌≤◌, [], ◌∷◌, ◌++◌, IfOk, OnOk};
 ghost use Rattle.bddl_model.specs.Circuit as spec;
-ghost use Rattle.bddl_model.specs.Truth.{negation};
 
 use bddl_model::{Lit, LitList, NoMemory, NodeId, Var, Wire};
 use circuit_dag::Dag;
@@ -16,7 +15,7 @@ pub fn circuit_clauses(alloc: Global, dag: &Dag, out: Wire) -> Result<Vec<LitLis
     dag.keeps_its_order();
     let inputs = dag.inputs();
     let mut clauses = Vec::new(alloc);
-    push_clause(alloc, &mut clauses, &[positive(inputs + 1)])?;
+    push_clause(alloc, &mut clauses, &[Lit::positive(Var(inputs + 1))])?;
     for node in inputs + 1..dag.len() {
         let Some((left, right)) = dag.gate(NodeId(node)) else {
             unreachable!()
@@ -41,12 +40,12 @@ fn push_gate(
     requires right { right.node.0 ≤ 16777215 }
     ensures { OnOk result (clauses.new.items ≡ clauses.old.items ++ spec.gate_clauses variable (spec.literal_of inputs left) (spec.literal_of inputs right) []) }
 {
-    let own = positive(variable);
+    let own = Lit::positive(Var(variable));
     let left = literal_of(inputs, left);
     let right = literal_of(inputs, right);
-    push_clause(alloc, clauses, &[negation(own), left])?;
-    push_clause(alloc, clauses, &[negation(own), right])?;
-    push_clause(alloc, clauses, &[own, negation(left), negation(right)])
+    push_clause(alloc, clauses, &[own.negation(), left])?;
+    push_clause(alloc, clauses, &[own.negation(), right])?;
+    push_clause(alloc, clauses, &[own, left.negation(), right.negation()])
 }
 
 // One clause more, of these literals.
@@ -65,24 +64,6 @@ fn clause_of(alloc: Global, literals: &[Lit]) -> Result<LitList, NoMemory>
         clause.push(*literal)?;
     }
     Ok(clause)
-}
-
-fn positive(variable: u32) -> Lit
-    ensures { result ≡ spec.positive variable }
-{
-    Lit {
-        var: Var(variable),
-        negated: false,
-    }
-}
-
-fn negation(literal: Lit) -> Lit
-    ensures { result ≡ negation literal }
-{
-    Lit {
-        var: literal.var,
-        negated: !literal.negated,
-    }
 }
 
 fn literal_of(inputs: u32, wire: Wire) -> Lit
@@ -118,14 +99,8 @@ mod tests {
 
     #[test]
     fn a_gate_has_three_clauses(rt: HostRuntime) -> Result<(), Fail> {
-        let yes = |variable| Lit {
-            var: Var(variable),
-            negated: false,
-        };
-        let no = |variable| Lit {
-            var: Var(variable),
-            negated: true,
-        };
+        let yes = |variable| Lit::positive(Var(variable));
+        let no = |variable| Lit::positive(Var(variable)).negation();
         let mut dag = Dag::new(rt.alloc(), 2)?;
         let no_second = dag.not(dag.input(2));
         let both = dag.and(dag.input(1), no_second)?;

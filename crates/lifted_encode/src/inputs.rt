@@ -3,8 +3,8 @@ ghost use Rattle.std.specs.Prelude.{◌≡◌, ◌+◌, ◌≤◌};
 ghost use Rattle.bddl_model.specs.Bits as spec;
 ghost use Rattle.bddl_model.specs.Layout.{span};
 
-use crate::bits::bits;
 use bddl_model::Span;
+use move_code::bits;
 
 /// The inputs that say which line Black claims, and which cell is the place. Before them stands the
 /// claim's kind, and between them an anchor, which a line in plain numbers doesn't heed.

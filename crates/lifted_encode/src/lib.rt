@@ -4,7 +4,6 @@
 //! `bddl_model/specs/Outcome.antt` first.
 #![tactic(auto)]
 
-mod bits;
 mod board;
 mod clauses;
 mod inputs;

@@ -101,7 +101,6 @@ pub fn start_form(alloc: Global, problem: &ProblemText) -> Result<StartForm, NoM
 #[cfg(test)]
 mod tests {
     use super::*;
-    use crate::bits::bits;
     use bddl_model::{AtomList, AtomText, InitAtom, InitList, LineList, Lit, Mark, TermText};
     use std::test::Fail;
 
@@ -130,13 +129,6 @@ mod tests {
         })
     }
 
-    fn positive(variable: u32) -> Lit {
-        Lit {
-            var: Var(variable),
-            negated: false,
-        }
-    }
-
     #[test]
     fn two_cells_have_one_bit_of_anchor_and_of_place(rt: HostRuntime) -> Result<(), Fail> {
         let form = start_form(rt.alloc(), &two_cells(rt.alloc(), Mark::Free)?)?;
@@ -156,24 +148,12 @@ mod tests {
             let form = start_form(rt.alloc(), &two_cells(rt.alloc(), mark)?)?;
             assert_eq!(rt; form.clauses.len(), 2);
             for (clause, variable) in form.clauses.iter().zip([4, output]) {
-                assert_eq!(rt; clause.as_slice(), [positive(variable)].as_slice());
+                assert_eq!(rt;
+                    clause.as_slice(),
+                    [Lit::positive(Var(variable))].as_slice()
+                );
             }
         }
         Ok(())
-    }
-
-    #[test]
-    fn bits_of_small_and_large_numbers(rt: HostRuntime) {
-        for (n, k) in [
-            (0, 0),
-            (1, 0),
-            (2, 1),
-            (3, 2),
-            (4, 2),
-            (5, 3),
-            (u32::MAX, 32),
-        ] {
-            assert_eq!(rt; bits(n), k);
-        }
     }
 }

@@ -11,7 +11,7 @@ use Rattle.bddl_model.specs.declared.texts.AtomText.{AtomText}
 use Rattle.bddl_model.specs.declared.check.Item.{Item}
 use Rattle.bddl_model.specs.declared.check.CheckFault.TheVariants as fault
 use Rattle.grid_game.proofs.Ranges.{some_in_range, none_in_range}
-use Rattle.grid_game.proofs.Anchors.{in_rect_fits, anchor_on_board}
+use Rattle.bddl_model.proofs.Anchors.{in_rect_fits, anchor_on_board}
 
 on_side_low : (side n : ℕ) → on_side side n ≡ true → (1 ≤ n) × (n ≤ side)
 on_side_low side n e = let parts = and_parts (nat_le 1 n) _ e in (leb-true 1 n parts.0, leb-true n side parts.1)

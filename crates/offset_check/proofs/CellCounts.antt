@@ -10,7 +10,8 @@ use Rattle.bddl_model.specs.declared.texts.InitAtom.{InitAtom}
 use Rattle.bddl_model.specs.Board.{index}
 use Rattle.bddl_model.specs.Check.{same_cell}
 use Rattle.bddl_model.specs.Fitting.{on_side, cell_on_board}
-use Rattle.grid_game.proofs.Cells.{on_side_low, on_side_high, index_below}
+use Rattle.bddl_model.proofs.Anchors.{on_side_low, on_side_high}
+use Rattle.grid_game.proofs.Cells.{index_below}
 
 -- no cell is named twice
 abbrev pub cells_apart : List InitAtom → Bool

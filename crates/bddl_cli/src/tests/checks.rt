@@ -44,6 +44,21 @@ const NO_ACTIONS: &str = "#blackactions #whiteactions";
 
 const NO_GOALS: &str = "#boardsize 3 2 #init () #depth 0 #blackgoals #whitegoals";
 
+// Each case: a domain, a problem, and the note that `compile` refuses them with.
+fn assert_told(rt: &impl Abort, alloc: Global, cases: &[(&str, &str, &str)]) -> Result<(), Fail> {
+    for (domain, problem, note) in cases {
+        let note = format!(in alloc; "{note}\n")?;
+        assert_refused(
+            rt,
+            alloc,
+            domain.as_bytes(),
+            problem.as_bytes(),
+            note.as_bytes(),
+        )?;
+    }
+    Ok(())
+}
+
 #[test]
 fn sizes_and_depths_out_of_range_are_told(rt: HostRuntime) -> Result<(), Fail> {
     let cases = [
@@ -60,14 +75,8 @@ fn sizes_and_depths_out_of_range_are_told(rt: HostRuntime) -> Result<(), Fail> {
         let problem = format!(in rt.alloc();
             "#boardsize {sides} #init (black(0,0)) #depth {depth} #blackgoals #whitegoals"
         )?;
-        let note = format!(in rt.alloc(); "check: {fault}\n")?;
-        assert_refused(
-            &rt,
-            rt.alloc(),
-            NO_ACTIONS.as_bytes(),
-            problem.as_bytes(),
-            note.as_bytes(),
-        )?;
+        let note = format!(in rt.alloc(); "check: {fault}")?;
+        assert_told(&rt, rt.alloc(), &[(NO_ACTIONS, &problem, &note)])?;
     }
     Ok(())
 }
@@ -80,24 +89,15 @@ fn assert_action_fault(
     fault: &str,
 ) -> Result<(), Fail> {
     let black = domain(alloc, actions, "")?;
-    let note = format!(in alloc; "check: black action{fault}\n")?;
-    assert_refused(
-        rt,
-        alloc,
-        black.as_bytes(),
-        NO_GOALS.as_bytes(),
-        note.as_bytes(),
-    )?;
+    let of_black = format!(in alloc; "check: black action{fault}")?;
     let fine = action(alloc, "fine", "open(?x,?y)", "black(?x,?y)")?;
     let white = domain(alloc, &fine, actions)?;
-    let note = format!(in alloc; "check: white action{fault}\n")?;
-    assert_refused(
-        rt,
-        alloc,
-        white.as_bytes(),
-        NO_GOALS.as_bytes(),
-        note.as_bytes(),
-    )
+    let of_white = format!(in alloc; "check: white action{fault}")?;
+    let cases = [
+        (black.as_str(), NO_GOALS, of_black.as_str()),
+        (white.as_str(), NO_GOALS, of_white.as_str()),
+    ];
+    assert_told(rt, alloc, &cases)
 }
 
 #[test]
@@ -201,14 +201,8 @@ fn faults_of_marked_cells_are_told(rt: HostRuntime) -> Result<(), Fail> {
     ];
     for (init, fault) in &cases {
         let problem = problem(rt.alloc(), init, "(black(0,0))", "")?;
-        let note = format!(in rt.alloc(); "check: init atom {fault}\n")?;
-        assert_refused(
-            &rt,
-            rt.alloc(),
-            NO_ACTIONS.as_bytes(),
-            problem.as_bytes(),
-            note.as_bytes(),
-        )?;
+        let note = format!(in rt.alloc(); "check: init atom {fault}")?;
+        assert_told(&rt, rt.alloc(), &[(NO_ACTIONS, &problem, &note)])?;
     }
     Ok(())
 }
@@ -216,23 +210,14 @@ fn faults_of_marked_cells_are_told(rt: HostRuntime) -> Result<(), Fail> {
 // A fault of a goal line is told, on whichever side.
 fn assert_line_fault(rt: &impl Abort, alloc: Global, lines: &str, fault: &str) -> Result<(), Fail> {
     let black = problem(alloc, "", lines, "")?;
-    let note = format!(in alloc; "check: black goal{fault}\n")?;
-    assert_refused(
-        rt,
-        alloc,
-        NO_ACTIONS.as_bytes(),
-        black.as_bytes(),
-        note.as_bytes(),
-    )?;
+    let of_black = format!(in alloc; "check: black goal{fault}")?;
     let white = problem(alloc, "", "(black(?x,?y) black(?x+1,?y))", lines)?;
-    let note = format!(in alloc; "check: white goal{fault}\n")?;
-    assert_refused(
-        rt,
-        alloc,
-        NO_ACTIONS.as_bytes(),
-        white.as_bytes(),
-        note.as_bytes(),
-    )
+    let of_white = format!(in alloc; "check: white goal{fault}")?;
+    let cases = [
+        (NO_ACTIONS, black.as_str(), of_black.as_str()),
+        (NO_ACTIONS, white.as_str(), of_white.as_str()),
+    ];
+    assert_told(rt, alloc, &cases)
 }
 
 #[test]
@@ -271,7 +256,7 @@ fn long_lines_and_many_lines_are_told(rt: HostRuntime) -> Result<(), Fail> {
 }
 
 #[test]
-fn the_first_of_two_faults_is_told(rt: HostRuntime) -> Result<(), Fail> {
+fn sizes_are_checked_first_and_then_actions(rt: HostRuntime) -> Result<(), Fail> {
     let off = action(rt.alloc(), "off", "open(0,1)", "")?;
     let never = action(rt.alloc(), "never", "open(?x+9,?y)", "")?;
     let black = domain(rt.alloc(), &never, &off)?;
@@ -280,45 +265,42 @@ fn the_first_of_two_faults_is_told(rt: HostRuntime) -> Result<(), Fail> {
         (
             black.as_str(),
             "#boardsize 3 2 #init (black(0,1)) #depth 32 #blackgoals #whitegoals",
-            "depth 32 is over 31",
+            "check: depth 32 is over 31",
         ),
         (
             black.as_str(),
             "#boardsize 3 2 #init (black(0,1)) #depth 31 #blackgoals #whitegoals",
-            "black action 1: never on the board",
+            "check: black action 1: never on the board",
         ),
         (
             white.as_str(),
             "#boardsize 3 2 #init (black(0,1)) #depth 1 #blackgoals #whitegoals",
-            "white action 1: number 0 is off the board",
+            "check: white action 1: number 0 is off the board",
         ),
+    ];
+    assert_told(&rt, rt.alloc(), &cases)
+}
+
+#[test]
+fn cells_are_checked_next_and_then_goals(rt: HostRuntime) -> Result<(), Fail> {
+    let cases = [
         (
             NO_ACTIONS,
             "#boardsize 3 2 #init (black(4,1)) #depth 1 #blackgoals (black(5,1)) #whitegoals",
-            "init atom 1: number 4 is off the board",
+            "check: init atom 1: number 4 is off the board",
         ),
         (
             NO_ACTIONS,
             "#boardsize 3 2 #init () #depth 1 #blackgoals (black(5,1)) #whitegoals (black(6,1))",
-            "black goal 1: number 5 is off the board",
+            "check: black goal 1: number 5 is off the board",
         ),
         (
             NO_ACTIONS,
             "#boardsize 3 2 #init () #depth 1 #blackgoals (black(1,1)) #whitegoals (black(6,1))",
-            "white goal 1: number 6 is off the board",
+            "check: white goal 1: number 6 is off the board",
         ),
     ];
-    for (domain, problem, fault) in &cases {
-        let note = format!(in rt.alloc(); "check: {fault}\n")?;
-        assert_refused(
-            &rt,
-            rt.alloc(),
-            domain.as_bytes(),
-            problem.as_bytes(),
-            note.as_bytes(),
-        )?;
-    }
-    Ok(())
+    assert_told(&rt, rt.alloc(), &cases)
 }
 
 #[test]
@@ -331,20 +313,15 @@ fn games_with_actions_are_not_built(rt: HostRuntime) -> Result<(), Fail> {
     let eight = domain(alloc, &actions(alloc, 8)?, &actions(alloc, 8)?)?;
     let last = domain(alloc, &far, "")?;
     let cases = [
-        (same_name.as_str(), "domain: not built\n"),
-        (eight.as_str(), "domain: not built\n"),
-        (last.as_str(), "check: black action 1: never on the board\n"),
+        (same_name.as_str(), board, "domain: not built"),
+        (eight.as_str(), board, "domain: not built"),
+        (
+            last.as_str(),
+            board,
+            "check: black action 1: never on the board",
+        ),
     ];
-    for (domain, note) in &cases {
-        assert_refused(
-            &rt,
-            alloc,
-            domain.as_bytes(),
-            board.as_bytes(),
-            note.as_bytes(),
-        )?;
-    }
-    Ok(())
+    assert_told(&rt, alloc, &cases)
 }
 
 #[test]
@@ -361,22 +338,12 @@ fn more_than_a_start_board_is_not_built(rt: HostRuntime) -> Result<(), Fail> {
         "#boardsize 2 3 #init () #depth 0 #blackgoals () (black(2,3) open(1,?y)) () #whitegoals",
     ];
     let acting = domain(rt.alloc(), "", &action(rt.alloc(), "a", "", "")?)?;
-    for problem in &problems {
-        let problem = problem.as_bytes();
-        assert_refused(
-            &rt,
-            rt.alloc(),
-            NO_ACTIONS.as_bytes(),
-            problem,
-            b"problem: not built\n",
-        )?;
-        assert_refused(
-            &rt,
-            rt.alloc(),
-            acting.as_bytes(),
-            problem,
-            b"domain: not built\n",
-        )?;
+    for problem in problems {
+        let cases = [
+            (NO_ACTIONS, problem, "problem: not built"),
+            (acting.as_str(), problem, "domain: not built"),
+        ];
+        assert_told(&rt, rt.alloc(), &cases)?;
     }
     Ok(())
 }
@@ -394,18 +361,9 @@ fn a_game_at_its_limits_has_no_fault(rt: HostRuntime) -> Result<(), Fail> {
     let problem = format!(in alloc;
         "#boardsize 16 16 #init (open(16,16)) #depth 31 #blackgoals {lines} #whitegoals {lines}"
     )?;
-    assert_refused(
-        &rt,
-        alloc,
-        domain.as_bytes(),
-        problem.as_bytes(),
-        b"domain: not built\n",
-    )?;
-    assert_refused(
-        &rt,
-        alloc,
-        NO_ACTIONS.as_bytes(),
-        problem.as_bytes(),
-        b"problem: not built\n",
-    )
+    let cases = [
+        (domain.as_str(), problem.as_str(), "domain: not built"),
+        (NO_ACTIONS, problem.as_str(), "problem: not built"),
+    ];
+    assert_told(&rt, alloc, &cases)
 }

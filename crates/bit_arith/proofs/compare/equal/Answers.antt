@@ -1,6 +1,6 @@
 use Rattle.std.proofs.Common.{arith, ◌*◌}
 use Rattle.bddl_model.proofs.Growth.{grows_more}
-use Rattle.bit_arith.proofs.Items.{item_stays}
+use Rattle.bddl_model.proofs.WireItems.{item_stays}
 use Rattle.bit_arith.proofs.Turns.{equal_turn}
 use Rattle.bit_arith.proofs.compare.equal.Goals as goal
 

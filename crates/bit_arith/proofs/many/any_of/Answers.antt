@@ -1,7 +1,7 @@
 use Rattle.std.proofs.Common.{◌&&◌, ap, ◌∙◌, arith}
 use Rattle.bddl_model.specs.Circuit.{holds}
 use Rattle.bddl_model.proofs.Growth.{grows_more}
-use Rattle.bit_arith.proofs.Items.{item_stays}
+use Rattle.bddl_model.proofs.WireItems.{item_stays}
 use Rattle.bit_arith.proofs.Turns.{any_turn}
 use Rattle.bit_arith.proofs.many.any_of.Goals as goal
 

@@ -4,7 +4,7 @@ use Rattle.bddl_model.specs.Circuit.{holds}
 use Rattle.bddl_model.specs.Words.{AreWires, word_bits}
 use Rattle.bddl_model.proofs.Growth.{grows_more}
 use Rattle.bddl_model.proofs.WireWords.{word_stays, word_kept}
-use Rattle.bit_arith.proofs.Items.{word_push}
+use Rattle.bddl_model.proofs.WireItems.{word_push}
 use Rattle.bit_arith.proofs.Adding.{sum_end}
 use Rattle.bit_arith.proofs.Turns.{sum_word_turn}
 use Rattle.bit_arith.proofs.sum.add.Goals as goal

@@ -1,4 +1,4 @@
-use Rattle.bit_arith.proofs.Items.{item_wire}
+use Rattle.bddl_model.proofs.WireItems.{item_wire}
 use Rattle.bit_arith.proofs.sum.bit_of.Goals as goal
 
 pub returns-then-i-a-clause-wire : goal.returns-then-i-a-clause-wire

@@ -1,6 +1,6 @@
 use Rattle.std.proofs.Common.{◌+◌, [], ◌∷◌, length, length-append, sym, ap, ◌∙◌, subst}
 use Rattle.bddl_model.specs.Words.{AreWires}
-use Rattle.bit_arith.proofs.Items.{word_push}
+use Rattle.bddl_model.proofs.WireItems.{word_push}
 use Rattle.bit_arith.proofs.tests.word.Goals as goal
 
 pub inputs-preserved : goal.inputs-preserved

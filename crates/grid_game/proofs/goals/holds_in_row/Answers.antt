@@ -1,5 +1,5 @@
 use Rattle.std.proofs.Common.{sym, arith}
-use Rattle.grid_game.proofs.Anchors.{rect_within}
+use Rattle.bddl_model.proofs.Anchors.{rect_within}
 use Rattle.grid_game.proofs.Rows.{row_holds_by_one, row_fails_by_all}
 use Rattle.grid_game.proofs.goals.holds_in_row.Goals as goal
 

@@ -1,5 +1,5 @@
 use Rattle.std.proofs.Common.{sym, arith}
-use Rattle.grid_game.proofs.Anchors.{rect_within}
+use Rattle.bddl_model.proofs.Anchors.{rect_within}
 use Rattle.grid_game.proofs.Rows.{line_holds_by_one, line_fails_by_all}
 use Rattle.grid_game.proofs.goals.line_holds.Goals as goal
 

@@ -1,0 +1,11 @@
+pub mod Variables
+pub mod Places
+pub mod Stored
+pub mod FittingClauses
+pub mod Definitions
+pub mod LongestTail
+pub mod SameClauses
+pub mod PairClauses
+pub mod ThreeLiterals
+pub mod GateClauses
+pub mod TailLength

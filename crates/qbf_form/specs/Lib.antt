@@ -1,0 +1,4 @@
+pub mod Places
+pub mod Stored
+pub mod Pairs
+pub mod TailMarks
