@@ -8,6 +8,7 @@ use Rattle.bddl_model.specs.declared.formula.Quant.{Quant}
 use Rattle.bddl_model.specs.declared.formula.Quant.TheVariants.{Exists, All}
 use Rattle.bddl_model.specs.declared.formula.Bound.{Bound}
 use Rattle.bddl_model.specs.declared.formula.Lit.{Lit}
+use Rattle.bddl_model.specs.Truth.{Formula}
 use Rattle.bddl_model.specs.FormulaText.{QuantSet, joined, line_text, letter_of, literal_text, set_line, clause_line, same_quant, onto_sets, sets_of, greatest_variable, head_line, qtext}
 use Rattle.bddl_cli.specs.FormLines.{literal_word, opening, bound_word, closing, prefix_rest, clause_rest, clauses_text}
 
@@ -127,8 +128,8 @@ prefix_step bs i d begun within = ap (prefix_rest begun) (drop_more bs i d withi
 pub prefix_end : (bs : List Bound) (i : ℕ) (begun : Option Quant) → length bs ≤ i → prefix_rest begun (drop i bs) ≡ closing begun
 prefix_end bs i begun past = ap (prefix_rest begun) (drop_all i bs past)
 
-pub clauses_step : (cs : List (List Lit)) (i : ℕ) (item shown : List Lit) → i < length cs → item ≡ slice_index_or cs i item → shown ≡ item → clauses_text (drop i cs) ≡ line_text (clause_line shown) ++ clauses_text (drop (i + 1) cs)
-clauses_step cs i item shown within e f = ap clauses_text (drop_more cs i item within) ∙ ap (λ c. line_text (clause_line c) ++ clauses_text (drop (i + 1) cs)) (sym e ∙ sym f)
+pub clauses_step : (cs : List (List Lit)) (i : ℕ) (shown : List Lit) → i < length cs → shown ≡ slice_index_or cs i [] → clauses_text (drop i cs) ≡ line_text (clause_line shown) ++ clauses_text (drop (i + 1) cs)
+clauses_step cs i shown within e = ap clauses_text (drop_more cs i [] within) ∙ ap (λ c. line_text (clause_line c) ++ clauses_text (drop (i + 1) cs)) (sym e)
 
 -- ---- the whole form
 
@@ -143,11 +144,11 @@ head_text variables clauses = codes "p cnf " ++ (decimal variables ++ (codes " "
 head_is : (v c : List ℕ) → line_text (codes "p" ∷ codes "cnf" ∷ v ∷ c ∷ []) ≡ codes "p cnf " ++ (v ++ (codes " " ++ (c ++ codes "\n")))
 head_is v c = simp append_assoc
 
-qtext_is : (bs : List Bound) (cs : List (List Lit)) → qtext (record { prefix = bs; clauses = cs }) ≡ head_text (greatest_variable bs) (length cs) ++ (prefix_rest None bs ++ clauses_text cs)
-qtext_is bs cs =
-    ap (λ t. line_text (head_line (greatest_variable bs) (length cs)) ++ t) (all_lines (sets_of bs) cs ∙ ap (λ t. t ++ clauses_text cs) (sym (prefix_is bs)))
-    ∙ ap (λ t. t ++ (prefix_rest None bs ++ clauses_text cs)) (head_is (decimal (greatest_variable bs)) (decimal (length cs)))
+qtext_is : (f : Formula) → qtext f ≡ head_text (greatest_variable f.prefix) (length f.clauses) ++ (prefix_rest None f.prefix ++ clauses_text f.clauses)
+qtext_is f =
+    ap (λ t. line_text (head_line (greatest_variable f.prefix) (length f.clauses)) ++ t) (all_lines (sets_of f.prefix) f.clauses ∙ ap (λ t. t ++ clauses_text f.clauses) (sym (prefix_is f.prefix)))
+    ∙ ap (λ t. t ++ (prefix_rest None f.prefix ++ clauses_text f.clauses)) (head_is (decimal (greatest_variable f.prefix)) (decimal (length f.clauses)))
 
--- the same, with the greatest variable by its name
-pub qtext_from : (bs : List Bound) (cs : List (List Lit)) (v : ℕ) → v ≡ greatest_variable bs → qtext (record { prefix = bs; clauses = cs }) ≡ head_text v (length cs) ++ (prefix_rest None bs ++ clauses_text cs)
-qtext_from bs cs v e = qtext_is bs cs ∙ ap (λ n. head_text n (length cs) ++ (prefix_rest None bs ++ clauses_text cs)) (sym e)
+-- the same, with the prefix and the counts by their names
+pub qtext_from : (f : Formula) (bs : List Bound) (v n : ℕ) → bs ≡ f.prefix → v ≡ greatest_variable bs → n ≡ length f.clauses → qtext f ≡ head_text v n ++ (prefix_rest None bs ++ clauses_text f.clauses)
+qtext_from f bs v n p e m = rw (m, e, p) (qtext_is f)

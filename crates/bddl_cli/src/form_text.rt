@@ -4,37 +4,32 @@ ghost use Rattle.bddl_model.specs.FormulaText.{line_text, clause_line, greatest_
 ghost use Rattle.io_edge.specs.Ends.{put_failed};
 ghost use Rattle.io_edge.specs.Outside.{Counts};
 ghost use Rattle.io_edge.specs.Puts.{Adds, Puts};
-ghost use Rattle.lifted_encode.specs.Forms.{formula_of};
 ghost use Rattle.bddl_cli.specs.FormLines as spec;
 ghost use Rattle.bddl_model.specs.declared.formula.Quant.TheVariants.{Exists, All as for_all};
 
-use bddl_model::{Bound, Lit, LitList, Quant};
+use bddl_model::{Bound, Lit, Quant};
 use io_edge::{PieceBuffer, Sink, SinkEnd};
 use itoa::Buffer;
-use lifted_encode::StartForm;
+use qbf_form::Form;
 
 /// Writes the text of a form.
-pub fn write_form<K: Sink>(form: &StartForm, sink: &mut K) -> Result<(), SinkEnd>
-    ensures text { Puts (qtext (formula_of form.now)) (K.written sink.old) (K.written sink.new) result }
+pub fn write_form<K: Sink>(form: &Form, sink: &mut K) -> Result<(), SinkEnd>
+    ensures text { Puts (qtext form.now) (K.written sink.old) (K.written sink.new) result }
     ensures cause { Counts (K.faults sink.old) (K.faults sink.new) (put_failed result) }
 {
     let mut buffer = PieceBuffer::new();
-    add_form(&mut buffer, sink, &form.prefix, &form.clauses)?;
+    add_form(&mut buffer, sink, form)?;
     buffer.finish(sink)
 }
 
-fn add_form<K: Sink>(
-    buffer: &mut PieceBuffer,
-    sink: &mut K,
-    prefix: &[Bound],
-    clauses: &[LitList],
-) -> Result<(), SinkEnd>
-    ensures text { Adds (qtext (record { prefix = prefix.now; clauses = clauses.now })) (K.written sink.old) buffer.old (K.written sink.new) buffer.new result }
+fn add_form<K: Sink>(buffer: &mut PieceBuffer, sink: &mut K, form: &Form) -> Result<(), SinkEnd>
+    ensures text { Adds (qtext form.now) (K.written sink.old) buffer.old (K.written sink.new) buffer.new result }
     ensures cause { Counts (K.faults sink.old) (K.faults sink.new) (put_failed result) }
 {
-    add_head(buffer, sink, greatest(prefix), clauses.len())?;
+    let prefix = form.prefix().as_slice();
+    add_head(buffer, sink, greatest(prefix), form.clauses())?;
     add_prefix(buffer, sink, prefix)?;
-    add_clauses(buffer, sink, clauses)
+    add_clauses(buffer, sink, form)
 }
 
 fn greatest(prefix: &[Bound]) -> u32
@@ -51,7 +46,7 @@ fn add_head<K: Sink>(
     buffer: &mut PieceBuffer,
     sink: &mut K,
     variables: u32,
-    clauses: usize,
+    clauses: u64,
 ) -> Result<(), SinkEnd>
     ensures text { Adds (codes "p cnf " ++ (decimal variables ++ (codes " " ++ (decimal clauses ++ codes "\n"))))
         (K.written sink.old) buffer.old (K.written sink.new) buffer.new result }
@@ -111,16 +106,12 @@ fn opening(begun: Option<Quant>, quant: Quant) -> &'static [u8]
     }
 }
 
-fn add_clauses<K: Sink>(
-    buffer: &mut PieceBuffer,
-    sink: &mut K,
-    clauses: &[LitList],
-) -> Result<(), SinkEnd>
-    ensures text { Adds (spec.clauses_text clauses.now) (K.written sink.old) buffer.old (K.written sink.new) buffer.new result }
+fn add_clauses<K: Sink>(buffer: &mut PieceBuffer, sink: &mut K, form: &Form) -> Result<(), SinkEnd>
+    ensures text { Adds (spec.clauses_text form.now.clauses) (K.written sink.old) buffer.old (K.written sink.new) buffer.new result }
     ensures cause { Counts (K.faults sink.old) (K.faults sink.new) (put_failed result) }
 {
-    for clause in clauses {
-        add_clause(buffer, sink, clause.as_slice())?;
+    for number in 0..form.clauses() {
+        add_clause(buffer, sink, form.clause(number))?;
     }
     Ok(())
 }

@@ -1,20 +1,17 @@
--- A circuit that says whether a line serves at a place makes a form that is true exactly when Black's goal stands.
-use Rattle.std.proofs.Common.{◌≡◌, ℕ, suc, ◌+◌, ◌≤◌, ◌^◌, Bool, true, false, List, [], ◌++◌, length, refl, sym, ap, ◌∙◌, arith}
+-- A test that says whether a line serves at a place: under the inputs of a start position it is true exactly when Black's goal stands.
+use Rattle.std.proofs.Common.{◌≡◌, ℕ, ◌+◌, ◌≤◌, ◌^◌, Bool, true, false, List, [], ◌++◌, length, refl, sym, ap, ◌∙◌, arith}
 use Rattle.std.proofs.lemmas.List.{append-nil}
-use Rattle.bddl_model.specs.declared.circuit.Wire.{Wire}
 use Rattle.bddl_model.specs.declared.formula.Quant.TheVariants.{Exists, All}
 use Rattle.bddl_model.specs.declared.formula.Bound.{Bound}
 use Rattle.bddl_model.specs.declared.game.Atom.{Atom}
 use Rattle.bddl_model.specs.declared.game.Side.TheVariants.{Black}
-use Rattle.bddl_model.specs.Truth.{Assignment, value, clauses_true}
-use Rattle.bddl_model.specs.Circuit.{Circuit, IsCircuit, IsWire, holds, circuit_clauses}
+use Rattle.bddl_model.specs.Truth.{Assignment, value}
 use Rattle.bddl_model.specs.Game.{Game}
 use Rattle.bddl_model.specs.Board.{Board}
 use Rattle.bddl_model.specs.Goal.{goal}
 use Rattle.bddl_model.specs.Bits.{bits, number_at}
 use Rattle.bddl_model.specs.Layout.{bounds, blocks, layout, prefix_of}
 use Rattle.bddl_model.proofs.Bits.{bits_enough}
-use Rattle.bddl_model.proofs.Tseitin.{compiled_value}
 use Rattle.lifted_encode.proofs.StartValue.{line_serves, some_line_serves}
 use Rattle.lifted_encode.specs.Serving.{serves}
 use Rattle.lifted_encode.proofs.StartGoal.{LinesFixed, goal_serves, serving_goal}
@@ -56,9 +53,6 @@ inputs_value width height lines board test a w h f says = same_truth _ _
     let some = bits_enough (length lines) in
     line_serves (bits (length lines)) (bits width) (bits height) (serves width board lines) test says a s.0 (let lt = s.1 in omega arith) (λ x y _ _. s.2 x y))
 
-pub start_is_exact : (width height : ℕ) (lines : List (List Atom)) (board : Board) (c : Circuit) (out : Wire) (a : Assignment) → 1 ≤ width → 1 ≤ height → LinesFixed width height lines → IsCircuit c → IsWire c out → SaysServes width height lines board (holds c out)
-    → value (prefix_of (blocks (layout (start_game width height lines) Black 0)) ++ bounds Exists (suc c.inputs) (suc (length c.gates))) (clauses_true (circuit_clauses c out)) a ≡ goal (start_game width height lines) board Black
-start_is_exact width height lines board c out a w h f good wire says =
-    compiled_value (prefix_of (blocks (layout (start_game width height lines) Black 0))) c out a good wire
-    ∙ ap (λ p. value p (holds c out) a) (start_prefix width height lines)
-    ∙ inputs_value width height lines board (holds c out) a w h f says
+pub start_is_exact : (width height : ℕ) (lines : List (List Atom)) (board : Board) (test : Assignment → Bool) (a : Assignment) → 1 ≤ width → 1 ≤ height → LinesFixed width height lines → SaysServes width height lines board test
+    → value (prefix_of (blocks (layout (start_game width height lines) Black 0))) test a ≡ goal (start_game width height lines) board Black
+start_is_exact width height lines board test a w h f says = ap (λ p. value p test a) (start_prefix width height lines) ∙ inputs_value width height lines board test a w h f says

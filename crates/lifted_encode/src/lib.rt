@@ -5,10 +5,9 @@
 #![tactic(auto)]
 
 mod board;
-mod clauses;
 mod inputs;
 mod number;
 mod serving;
 mod start;
 
-pub use start::{StartForm, start_form};
+pub use start::start_form;

@@ -1,71 +1,51 @@
-ghost use Rattle.std.specs.Prelude.{◌≡◌, None, ◌+◌, ◌^◌, ◌<◌, ◌≤◌, ◌++◌, IfOk, OnOk};
+ghost use Rattle.std.specs.Prelude.{◌≡◌, None, ◌+◌, ◌≤◌, ◌++◌, IfOk};
 ghost use Rattle.bddl_model.specs.Check.{setup_fault};
-ghost use Rattle.bddl_model.specs.Layout.{bounds};
+ghost use Rattle.bddl_model.specs.Layout as spec;
 ghost use Rattle.bddl_model.specs.Outcome.{Encodes, no_actions};
+ghost use Rattle.bddl_model.specs.Prenex.{Cover};
 ghost use Rattle.bddl_model.specs.Setup.{setup_of};
 ghost use Rattle.bddl_model.specs.Start.{IsStartProblem};
 ghost use Rattle.lifted_encode.specs.Fixed.{IsFixed};
-ghost use Rattle.lifted_encode.specs.Forms.{formula_of};
 ghost use Rattle.bddl_model.specs.declared.formula.Quant.TheVariants.{Exists, All as for_all};
 
 use crate::board::start_board;
-use crate::clauses::circuit_clauses;
 use crate::inputs::StartInputs;
 use crate::serving::some_line_serves;
-use bddl_model::{Bound, LitList, NoMemory, ProblemText, Quant, Span, Var};
+use bddl_model::{Block, NoMemory, ProblemText, Quant, Span};
 use circuit_dag::Dag;
+use prenexer::prefix_of;
+use qbf_form::Form;
 use std::alloc::Global;
+use tseitin::to_clauses;
 
-/// A formula of a start position.
-#[derive(Debug, Drop)]
-pub struct StartForm {
-    /// The variables under their quantifiers, outermost first.
-    pub prefix: Vec<Bound>,
-    pub clauses: Vec<LitList>,
-}
-
-fn push_bounds(prefix: &mut Vec<Bound>, quant: Quant, span: Span) -> Result<(), NoMemory>
-    requires { span.from + span.len < 2 ^ 32 }
-    ensures { OnOk result (prefix.new.items ≡ prefix.old.items ++ bounds quant span.from span.len) }
+// The claim's inputs, from the first on, and the place's behind them.
+fn input_blocks(claim: u32, place: u32) -> [Block; 2]
+    requires { claim + place ≤ 65535 }
+    ensures cover { Cover result (claim + place) }
+    ensures prefix { spec.prefix_of result ≡ spec.bounds Exists 1 claim ++ spec.bounds for_all (1 + claim) place }
 {
-    for number in span.from..span.from + span.len {
-        prefix.push(Bound {
-            quant,
-            var: Var(number),
-        })?;
-    }
-    Ok(())
-}
-
-// The claim, the place, and the variables behind them.
-fn start_prefix(alloc: Global, claim: u32, place: u32, gates: u32) -> Result<Vec<Bound>, NoMemory>
-    requires { claim + place + gates < 2 ^ 31 }
-    ensures { IfOk result (λ prefix. prefix.items
-        ≡ bounds Exists 1 claim ++ bounds for_all (1 + claim) place ++ bounds Exists (1 + claim + place) gates) }
-{
-    let mut prefix = Vec::new(alloc);
-    let claim = Span {
-        from: 1,
-        len: claim,
-    };
-    let place = Span {
-        from: 1 + claim.len,
-        len: place,
-    };
-    let gates = Span {
-        from: place.from + place.len,
-        len: gates,
-    };
-    push_bounds(&mut prefix, Quant::Exists, claim)?;
-    push_bounds(&mut prefix, Quant::All, place)?;
-    push_bounds(&mut prefix, Quant::Exists, gates)?;
-    Ok(prefix)
+    [
+        Block {
+            quant: Quant::Exists,
+            span: Span {
+                from: 1,
+                len: claim,
+            },
+        },
+        Block {
+            quant: Quant::All,
+            span: Span {
+                from: 1 + claim,
+                len: place,
+            },
+        },
+    ]
 }
 
 // The formula of a start board and of lines that name its cells.
-fn fixed_form(alloc: Global, problem: &ProblemText) -> Result<StartForm, NoMemory>
+fn fixed_form(alloc: Global, problem: &ProblemText) -> Result<Form, NoMemory>
     requires { IsFixed problem.now }
-    ensures { IfOk result (λ form. Encodes (formula_of form) (setup_of no_actions problem.now)) }
+    ensures { IfOk result (λ form. Encodes form (setup_of no_actions problem.now)) }
 {
     let lines = problem.black.as_slice();
     let inputs = StartInputs::of(problem.width, problem.height, lines.len() as u32);
@@ -80,20 +60,21 @@ fn fixed_form(alloc: Global, problem: &ProblemText) -> Result<StartForm, NoMemor
     let mut dag = Dag::new(alloc, claim + place)?;
     let out = some_line_serves(&mut dag, &board, inputs, lines)?;
     dag.keeps_its_order();
-    let behind_inputs = dag.len() - dag.inputs();
-    Ok(StartForm {
-        prefix: start_prefix(alloc, claim, place, behind_inputs)?,
-        clauses: circuit_clauses(alloc, &dag, out)?,
-    })
+    let blocks = input_blocks(claim, place);
+    let gates = dag.len() - dag.inputs();
+    let prefix = prefix_of(alloc, &blocks, dag.inputs(), gates)?;
+    let form = to_clauses(alloc, &dag, out, prefix)?;
+    form.keeps_its_form();
+    Ok(form)
 }
 
 /// The formula of a start position: some line of Black agrees with the start board at all places.
 /// Its inputs are those of the layout. Behind them stand the variable that is true and those of the
 /// gates.
-pub fn start_form(alloc: Global, problem: &ProblemText) -> Result<StartForm, NoMemory>
+pub fn start_form(alloc: Global, problem: &ProblemText) -> Result<Form, NoMemory>
     requires checked { setup_fault no_actions problem.now ≡ None }
     requires start { IsStartProblem problem.now }
-    ensures { IfOk result (λ form. Encodes (formula_of form) (setup_of no_actions problem.now)) }
+    ensures { IfOk result (λ form. Encodes form (setup_of no_actions problem.now)) }
 {
     fixed_form(alloc, problem)
 }
@@ -101,7 +82,7 @@ pub fn start_form(alloc: Global, problem: &ProblemText) -> Result<StartForm, NoM
 #[cfg(test)]
 mod tests {
     use super::*;
-    use bddl_model::{AtomList, AtomText, InitAtom, InitList, LineList, Lit, Mark, TermText};
+    use bddl_model::{AtomList, AtomText, InitAtom, InitList, LineList, Lit, Mark, TermText, Var};
     use std::test::Fail;
 
     // Two cells, the first one marked so, and a line that asks for a black stone there.
@@ -133,8 +114,9 @@ mod tests {
     fn two_cells_have_one_bit_of_anchor_and_of_place(rt: HostRuntime) -> Result<(), Fail> {
         let form = start_form(rt.alloc(), &two_cells(rt.alloc(), Mark::Free)?)?;
         let quants = [Quant::Exists, Quant::Exists, Quant::All, Quant::Exists];
-        assert_eq!(rt; form.prefix.len(), 4);
-        for (i, bound) in form.prefix.iter().enumerate() {
+        let bounds = form.prefix().as_slice();
+        assert_eq!(rt; bounds.len(), 4);
+        for (i, bound) in bounds.iter().enumerate() {
             assert_eq!(rt; bound.var, Var(i as u32 + 1));
             assert_eq!(rt; Some(&bound.quant), quants.get(i));
         }
@@ -146,13 +128,9 @@ mod tests {
     fn the_output_is_true_or_the_place(rt: HostRuntime) -> Result<(), Fail> {
         for (mark, output) in [(Mark::Black, 4), (Mark::White, 3), (Mark::Free, 3)] {
             let form = start_form(rt.alloc(), &two_cells(rt.alloc(), mark)?)?;
-            assert_eq!(rt; form.clauses.len(), 2);
-            for (clause, variable) in form.clauses.iter().zip([4, output]) {
-                assert_eq!(rt;
-                    clause.as_slice(),
-                    [Lit::positive(Var(variable))].as_slice()
-                );
-            }
+            assert_eq!(rt; form.clauses(), 2);
+            assert_eq!(rt; form.clause(0), [Lit::positive(Var(4))].as_slice());
+            assert_eq!(rt; form.clause(1), [Lit::positive(Var(output))].as_slice());
         }
         Ok(())
     }

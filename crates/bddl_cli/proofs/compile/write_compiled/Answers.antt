@@ -1,7 +1,8 @@
 use Rattle.std.proofs.lemmas.Result.{err_from_is_err_and}
 use Rattle.bddl_model.specs.Outcome.{CompileEnds}
+use Rattle.bddl_model.specs.Request as spec
 use Rattle.bddl_cli.proofs.Built.{form_ends, built_passes}
-use Rattle.bddl_cli.proofs.Written.{stops_writing, text_is_written, text_is_cut}
+use Rattle.bddl_cli.proofs.Written.{stops_writing, text_is_written, text_is_cut, writing_may_stop}
 use Rattle.bddl_cli.proofs.compile.write_compiled.Goals as goal
 
 pub returns-in_err-tree-clause-written : goal.returns-in_err-tree-clause-written
@@ -30,3 +31,8 @@ pub returns-in_err-tree-clause-stops : goal.returns-in_err-tree-clause-stops
 returns-in_err-tree-clause-stops g c d p =
     let end = err_from_is_err_and c.from_residual.result c.from_residual.ensures.1 in
     rw (end.1, end.2) (c.in_err-tree.ensures.stops d p)
+
+pub returns-in_err-write_form-clause-stops : goal.returns-in_err-write_form-clause-stops
+returns-in_err-write_form-clause-stops g c d p =
+    let end = err_from_is_err_and c.from_residual-in_err-write_form.result c.from_residual-in_err-write_form.ensures.1 in
+    rw (end.1, end.2) (writing_may_stop (spec.compile d p) c.in_err-write_form.field-0.0)
