@@ -1,9 +1,9 @@
-pub mod FormTexts
-pub mod Added
-pub mod Files
-pub mod Named
-pub mod Built
-pub mod Requested
-pub mod Answered
-pub mod TextFaults
-pub mod Written
+mod Named
+mod Done
+mod Files
+mod Results
+mod Stopping
+mod Games
+mod Built
+mod Numbers
+mod Answered

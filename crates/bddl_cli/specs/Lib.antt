@@ -1,3 +1,3 @@
+pub mod Stops
 pub mod Ends
 pub mod Seen
-pub mod FormLines

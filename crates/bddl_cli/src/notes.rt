@@ -1,46 +1,59 @@
-// What is told of a refusal: its line and its status.
-ghost use Rattle.std.specs.Prelude.{◌≡◌, IfOk, string_bytes};
-ghost use Rattle.bddl_model.specs.Notes.{place_note, check_note, check_words, side_name, axis_name, item_text, limit_words};
-ghost use Rattle.bddl_cli.specs.Ends.{reported, text_name, words_of};
+// The notes: what is told of a request that was not carried out.
+ghost use Rattle.std.specs.Prelude.{◌≡◌, ◌≢◌, ◌<◌, IfOk, string_bytes};
+ghost use Rattle.bddl_model.specs.Notes.{place_note, check_note, check_words, fault_words, side_name, axis_name, item_text, limit_words};
+ghost use Rattle.bddl_cli.specs.Ends.{content_told, refusal_told, text_name};
+ghost use Rattle.bddl_model.specs.declared.check.CheckFault.TheVariants.{NoMemory as no_fault};
 
-use crate::read::FILE_LIMIT;
-use crate::refusal::{GameText, Refusal, Trouble};
-use bddl_model::{Axis, CheckFault, Item, Part, Place, Side};
+use crate::game_fault::GameFault;
+use crate::refusal::{Content, FileEnd, GameText, Refusal};
+use bddl_model::{Axis, CheckFault, GREATEST_SIDE, Item, LexFault, Part, Place, ReadFault, Side};
 use std::alloc::{AllocError, Global};
 
 /// The exit status that a refusal ends with.
 pub fn status_of(refusal: Refusal) -> u8
-    ensures { result ≡ (reported refusal).status }
+    ensures status { result ≡ (refusal_told refusal).status }
+    ensures few { result < 4 }
 {
     match refusal {
         Refusal::NoRequest => 1,
-        Refusal::TooLong(_)
-        | Refusal::Grammar { .. }
-        | Refusal::Check(_)
-        | Refusal::DomainNotBuilt
-        | Refusal::ProblemNotBuilt => 2,
-        Refusal::ReadFault(_) => 3,
+        Refusal::File {
+            end: FileEnd::ReadFault,
+            ..
+        } => 3,
+        Refusal::File { .. } | Refusal::Content(_) => 2,
     }
 }
 
 /// The line that tells a refusal.
-pub fn text_of(alloc: Global, refusal: Refusal) -> Result<String, AllocError>
-    ensures { IfOk result (λ text. string_bytes text ≡ (reported refusal).note) }
+pub fn note_of(alloc: Global, refusal: Refusal) -> Result<String, AllocError>
+    ensures { IfOk result (λ text. string_bytes text ≡ (refusal_told refusal).note) }
 {
     match refusal {
         Refusal::NoRequest => format!(in alloc; "no such request\n"),
-        Refusal::ReadFault(word) => format!(in alloc; "word {word}: read fault\n"),
-        Refusal::TooLong(word) => format!(in alloc;
-            "word {word}: longer than {FILE_LIMIT} bytes\n"
-        ),
-        Refusal::Grammar {
-            text,
-            place,
-            trouble,
-        } => place_text(alloc, text, place, words_of(trouble)),
-        Refusal::Check(fault) => check_text(alloc, fault),
-        Refusal::DomainNotBuilt => format!(in alloc; "domain: not built\n"),
-        Refusal::ProblemNotBuilt => format!(in alloc; "problem: not built\n"),
+        Refusal::File { word, end } => file_text(alloc, word, end),
+        Refusal::Content(content) => content_text(alloc, content),
+    }
+}
+
+fn file_text(alloc: Global, word: usize, end: FileEnd) -> Result<String, AllocError>
+    ensures { IfOk result (λ text. string_bytes text ≡ (refusal_told (Refusal.File word end)).note) }
+{
+    match end {
+        FileEnd::ReadFault => format!(in alloc; "word {word}: read fault\n"),
+        FileEnd::TooLong(most) => format!(in alloc; "word {word}: longer than {most} bytes\n"),
+    }
+}
+
+fn content_text(alloc: Global, content: Content) -> Result<String, AllocError>
+    ensures { IfOk result (λ text. string_bytes text ≡ (content_told content).note) }
+{
+    match content {
+        Content::Text { text, place, fault } => {
+            place_text(alloc, text, place, fault_words(fault))
+        }
+        Content::Check(fault) => check_text(alloc, fault),
+        Content::NotBuilt(GameText::Domain) => format!(in alloc; "domain: not built\n"),
+        Content::NotBuilt(GameText::Problem) => format!(in alloc; "problem: not built\n"),
     }
 }
 
@@ -60,32 +73,34 @@ fn place_text(
     }
 }
 
-fn words_of(trouble: Trouble) -> &'static str
-    ensures { result.now ≡ words_of trouble }
+fn fault_words(fault: ReadFault) -> &'static str
+    ensures { result.now ≡ fault_words fault }
 {
-    match trouble {
-        Trouble::BadByte => "bad byte",
-        Trouble::NameTooLong => "name too long",
-        Trouble::NumberTooLong => "number too long",
-        Trouble::UnexpectedWord => "unexpected word",
-        Trouble::EndsEarly => "text ends early",
+    match fault {
+        ReadFault::Lex(LexFault::BadByte { .. }) => "bad byte",
+        ReadFault::Lex(LexFault::NameTooLong { .. }) => "name too long",
+        ReadFault::Lex(LexFault::NumberTooLong { .. }) => "number too long",
+        ReadFault::Unexpected { .. } => "unexpected word",
+        ReadFault::EndsEarly { .. } => "text ends early",
+        ReadFault::Lex(LexFault::NoMemory) | ReadFault::NoMemory => "",
     }
 }
 
 // The line that tells a fault of a game.
-fn check_text(alloc: Global, fault: CheckFault) -> Result<String, AllocError>
-    ensures { IfOk result (λ line. string_bytes line ≡ check_note fault) }
+fn check_text(alloc: Global, fault: GameFault) -> Result<String, AllocError>
+    ensures { IfOk result (λ line. string_bytes line ≡ check_note fault.fault) }
 {
-    let words = check_words(alloc, fault)?;
+    let words = check_words(alloc, fault.fault)?;
     format!(in alloc; "check: {words}\n")
 }
 
 fn check_words(alloc: Global, fault: CheckFault) -> Result<String, AllocError>
+    requires { fault ≢ no_fault }
     ensures { IfOk result (λ words. string_bytes words ≡ check_words fault) }
 {
     match fault {
         CheckFault::SizeOutOfRange { axis, said } => {
-            format!(in alloc; "{} {said} is not 1 to 16", axis_name(axis))
+            format!(in alloc; "{} {said} is not 1 to {GREATEST_SIDE}", axis_name(axis))
         }
         CheckFault::DepthOutOfRange { said } => format!(in alloc; "depth {said} is over 31"),
         CheckFault::TooManyActions { side, found } => {
@@ -114,7 +129,7 @@ fn check_words(alloc: Global, fault: CheckFault) -> Result<String, AllocError>
         CheckFault::TooManyLines { side, found } => {
             format!(in alloc; "{} goals: {found} are over 256", side_name(side))
         }
-        CheckFault::NoMemory => Ok(String::new(alloc)),
+        CheckFault::NoMemory => unreachable!(),
     }
 }
 

@@ -1,39 +1,69 @@
-// The files that the words name.
-ghost use Rattle.std.specs.Prelude.{◌≡◌, ◌≤◌, None, IfOk, IfErr, IsTrue, length};
-ghost use Rattle.bddl_model.specs.Files.{file_at};
+// The files that a request names.
+ghost use Rattle.std.specs.Prelude.{◌≡◌, ◌≤◌, ◌<◌, ◌^◌, false, ℕ, List, Bool, Option, All, IfErr, length, map};
+ghost use Rattle.std.specs.Option.{ForSome};
+ghost use Rattle.bddl_model.specs.Outcome.{Finds};
 ghost use Rattle.io_edge.specs.Outside.{Counts};
-ghost use Rattle.bddl_cli.specs.Ends.{IsFile, IsReadEnd, is_read_fault};
+ghost use Rattle.bddl_cli.specs.Ends.{FindsOne, IsFileStop, ReadsFile, ReadsFiles, is_read_fault};
 
-use crate::refusal::{Refusal, Stop};
+use crate::refusal::{FileEnd, Refusal, Stop};
 use io_edge::{Shelf, ShelfEnd};
 use std::alloc::Global;
 
-/// The greatest length of a game file. One byte more is read, which tells a longer one.
-pub const FILE_LIMIT: u64 = 1_048_576;
-
-/// Reads the file that the word of this number names.
-pub fn read_named<S: Shelf>(
+/// Reads the files of these names, the first of which is the second word. Each has its limit.
+pub fn read_files<S: Shelf>(
     alloc: Global,
     shelf: &mut S,
-    word: u8,
-    name: &[u8],
-) -> Result<Vec<u8>, Stop>
-    ensures file { IfOk result (λ bytes. IsFile (S.held shelf.old) name.now bytes.items) }
-    ensures short { IfOk result (λ bytes. length bytes.items ≤ FILE_LIMIT) }
-    ensures err { IfErr result (IsReadEnd (S.held shelf.old) word name.now) }
-    ensures held { S.held shelf.new ≡ S.held shelf.old }
+    limits: &[Option<u64>],
+    names: &[Vec<u8>],
+) -> Result<Vec<Vec<u8>>, Stop<Refusal>>
+    requires limits { All (λ limit. ForSome limit (λ most. most < 2 ^ 62)) limits.now }
+    requires lengths { length names.now ≡ length limits.now }
+    ensures read { (faulty : Bool) → (faulty ≡ false → S.calm shelf.old) → (found : List (Option (List ℕ)))
+        × Finds (S.held shelf.old) (map (λ w. w.items) names.now) found
+        × ReadsFiles (λ files. map (λ w. w.items) files.items) faulty limits.now found result }
+    ensures stop { IfErr result IsFileStop }
     ensures cause { Counts (S.faults shelf.old) (S.faults shelf.new) (is_read_fault result) }
+{
+    let mut contents = Vec::with_capacity(alloc, names.len())?;
+    'files: for i in 0..names.len() {
+        contents.push(read_file(alloc, shelf, i + 2, limits[i], &names[i])?)?;
+    }
+    Ok(contents)
+}
+
+// Reads the file that the word of this number names. A byte past its limit tells a longer one.
+fn read_file<S: Shelf>(
+    alloc: Global,
+    shelf: &mut S,
+    word: usize,
+    limit: Option<u64>,
+    name: &[u8],
+) -> Result<Vec<u8>, Stop<Refusal>>
+    requires { ForSome limit (λ most. most < 2 ^ 62) }
+    ensures read { (faulty : Bool) → (faulty ≡ false → S.calm shelf.old) → (found : Option (List ℕ))
+        × FindsOne (S.held shelf.old) name.now found
+        × ReadsFile (λ w. w.items) faulty word limit found result }
+    ensures stop { IfErr result IsFileStop }
+    ensures held { S.held shelf.new ≡ S.held shelf.old }
     ensures calm { S.calm shelf.old → S.calm shelf.new }
-    ensures calm_cause { S.calm shelf.old → IsTrue (is_read_fault result) → file_at (S.held shelf.old) name.now ≡ None }
+    ensures cause { Counts (S.faults shelf.old) (S.faults shelf.new) (is_read_fault result) }
 {
     let mut bytes = Vec::new(alloc);
-    match shelf.read(name, Some(FILE_LIMIT), &mut bytes) {
+    match shelf.read(name, limit, &mut bytes) {
         Ok(()) => {}
-        Err(ShelfEnd::Failed) => return Err(Stop::Refused(Refusal::ReadFault(word))),
+        Err(ShelfEnd::Failed) => return Err(refused(word, FileEnd::ReadFault)),
         Err(ShelfEnd::NoMemory) => return Err(Stop::NoMemory),
     }
-    if bytes.len() as u64 > FILE_LIMIT {
-        return Err(Stop::Refused(Refusal::TooLong(word)));
+    if let Some(most) = limit {
+        if bytes.len() as u64 > most {
+            return Err(refused(word, FileEnd::TooLong(most)));
+        }
     }
     Ok(bytes)
+}
+
+fn refused(word: usize, end: FileEnd) -> Stop<Refusal>
+    ensures { result ≡ Stop.Refused (Refusal.File word end) }
+{
+    Stop::Refused(Refusal::File { word, end })
 }

@@ -1,8 +1,7 @@
 // Which games are built: those of a start board alone, with goal lines in plain numbers.
 ghost use Rattle.std.specs.Prelude.{◌≡◌, ◌↔◌, IsTrue};
 ghost use Rattle.std.specs.List.{list_all};
-ghost use Rattle.bddl_model.specs.Outcome.{no_actions};
-ghost use Rattle.bddl_model.specs.Start.{IsStartProblem, in_numbers, is_number};
+ghost use Rattle.bddl_model.specs.Start.{IsStartProblem, in_numbers, is_number, no_actions};
 
 use bddl_model::{AtomList, AtomText, DomainText, ProblemText, TermText};
 

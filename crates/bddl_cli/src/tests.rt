@@ -1,6 +1,8 @@
+mod about;
 mod checks;
 mod evaluator;
 mod formatting;
+mod numbers;
 mod start_positions;
 
 use crate::run::run;
@@ -96,7 +98,7 @@ fn boards_of_all_sizes_compile(rt: HostRuntime) -> Result<(), Fail> {
 
 #[test]
 fn other_words_are_no_request(rt: HostRuntime) -> Result<(), Fail> {
-    let cases: [&[&[u8]]; 9] = [
+    let cases: [&[&[u8]]; 13] = [
         &[],
         &[b"resolve"],
         &[b"compile"],
@@ -106,6 +108,10 @@ fn other_words_are_no_request(rt: HostRuntime) -> Result<(), Fail> {
         &[b"fmt-domain"],
         &[b"fmt-problem", b"p", b"p"],
         &[b"fmt", b"d"],
+        &[b"help", b"d"],
+        &[b"--version", b"d"],
+        &[b"-help"],
+        &[b""],
     ];
     for words in &cases {
         let mut shelf = shelf_of(rt.alloc(), DOMAIN, PROBLEM)?;

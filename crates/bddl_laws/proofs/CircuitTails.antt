@@ -11,11 +11,10 @@ use Rattle.bddl_model.specs.declared.circuit.Wire.{Wire}
 use Rattle.bddl_model.specs.declared.circuit.Gate.{Gate}
 use Rattle.bddl_model.specs.Truth.{Formula, negation}
 use Rattle.bddl_model.specs.Setup.{Setup}
-use Rattle.bddl_model.specs.Forms.{has_number, prefix_variables}
+use Rattle.bddl_model.specs.Forms.{has_number, prefix_variables, same_literal, has_literal}
 use Rattle.bddl_model.specs.Layout.{bounds}
 use Rattle.bddl_model.specs.Circuit.{Circuit, IsCircuit, Ordered, variable_of, literal_of, positive, gate_clauses, gates_clauses, output_clause, circuit_clauses}
 use Rattle.bddl_model.specs.CircuitValues.{gate_bounds}
-use Rattle.bddl_model.specs.Resolution.{same_sign, same_literal, has_literal}
 use Rattle.bddl_model.specs.Size.{inputs_of, gate_limit, is_small}
 use Rattle.bddl_model.specs.Bounds.{bound, game_bound}
 use Rattle.bddl_model.specs.Tail.{same_clause, has_clause, literals_of, defines, is_gate, are_gates, is_tail, tail_length}
@@ -23,16 +22,10 @@ use Rattle.bddl_model.proofs.NumberLists.{has_append}
 use Rattle.bddl_model.proofs.Tseitin.{var_gate}
 use Rattle.bddl_model.proofs.CircuitForms.{var_apart}
 use Rattle.bddl_laws.proofs.FormBounds.{small_form_bound}
+use Rattle.bddl_laws.proofs.Literals.{same_as_itself}
 use Rattle.bddl_laws.proofs.Tails.{tail_is_greatest}
 
 -- ---- clauses that stand there
-
-same_as_itself : (l : Lit) → same_literal l l ≡ true
-same_as_itself l = and_from _ _ (eq-eqb l.var.0 l.var.0 refl) (go l.negated)
-  where
-    go : (n : Bool) → same_sign n n ≡ true
-    go true = refl
-    go false = refl
 
 literals_stand : (front c : List Lit) → list_all (has_literal (front ++ c)) c ≡ true
 literals_stand front [] = refl

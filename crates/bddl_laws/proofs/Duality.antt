@@ -57,7 +57,7 @@ same_other Exists All = refl
 same_other All Exists = refl
 same_other All All = refl
 
-block_dual : (q : Quant) (p : List Bound) → first_block q (dual_prefix p) ≡ first_block (other q) p
+pub block_dual : (q : Quant) (p : List Bound) → first_block q (dual_prefix p) ≡ first_block (other q) p
 block_dual q [] = refl
 block_dual q (x ∷ p) = ap₂ (λ t n. if t then suc n else 0) (same_other x.quant q) (block_dual q p)
 
@@ -65,8 +65,8 @@ pub last_dual : (q : Quant) (p : List Bound) (c : List Lit) → last_named q (du
 last_dual q [] c = refl
 last_dual q (x ∷ p) c = ap₂ up_to (last_dual q p c) (ap₂ (λ s t. s && t) (same_other x.quant q) (ap (λ ls. has_number ls x.var.0) (variables_negated c)))
 
-pub depth_dual : (p : List Bound) (c : List Lit) → clause_depth (dual_prefix p) (negated_literals c) ≡ cube_depth p c
-depth_dual p c = ap₂ max (block_dual All p) (last_dual Exists p c)
+pub depth_dual : (kept : ℕ) (p : List Bound) (c : List Lit) → clause_depth kept (dual_prefix p) (negated_literals c) ≡ cube_depth kept p c
+depth_dual kept p c = ap (max kept) (last_dual Exists p c)
 
 pub filter_negated : (f g : Lit → Bool) (c : List Lit) → ((l : Lit) → f (negation l) ≡ g l) → filter f (negated_literals c) ≡ negated_literals (filter g c)
 filter_negated f g [] h = refl
@@ -93,22 +93,22 @@ clause_negated a (l ∷ c) = ap₂ (λ s t. s || t) (negation_true a l) (clause_
 
 -- ---- fine
 
-pub clause_from_cube : (p : List Bound) (m : Assignment → Bool) (k : List Lit) → IsFineCube p m k → IsFineClause (dual_prefix p) (λ a. not (m a)) (negated_literals k)
-clause_from_cube p m k f = record {
+pub clause_from_cube : (kept : ℕ) (p : List Bound) (m : Assignment → Bool) (k : List Lit) → IsFineCube kept p m k → IsFineClause kept (dual_prefix p) (λ a. not (m a)) (negated_literals k)
+clause_from_cube kept p m k f = record {
   fits = fits_dual p k f.fits;
   unbroken = λ a st h. f.unbroken a
-      (λ j lo hi. not-true _ (sym (value_dual_at p m j a) ∙ st j (rw block_dual lo) (rw (depth_dual p k) hi)))
-      (not-false _ (sym (clause_negated a _) ∙ sym (ap (clause_true a) (among_dual (cube_depth p k) p k)) ∙ sym (ap (λ n. clause_true a (among_first n (dual_prefix p) (negated_literals k))) (depth_dual p k)) ∙ h));
+      (λ j lo hi. not-true _ (sym (value_dual_at p m j a) ∙ st j lo (rw (depth_dual kept p k) hi)))
+      (not-false _ (sym (clause_negated a _) ∙ sym (ap (clause_true a) (among_dual (cube_depth kept p k) p k)) ∙ sym (ap (λ n. clause_true a (among_first n (dual_prefix p) (negated_literals k))) (depth_dual kept p k)) ∙ h));
 }
 
-pub cube_from_clause : (p : List Bound) (m : Assignment → Bool) (k : List Lit) → IsFineClause (dual_prefix p) (λ a. not (m a)) (negated_literals k) → IsFineCube p m k
-cube_from_clause p m k f = record {
+pub cube_from_clause : (kept : ℕ) (p : List Bound) (m : Assignment → Bool) (k : List Lit) → IsFineClause kept (dual_prefix p) (λ a. not (m a)) (negated_literals k) → IsFineCube kept p m k
+cube_from_clause kept p m k f = record {
   fits = fits_from_dual p k f.fits;
   unbroken = λ a st h. f.unbroken a
-      (λ j lo hi. value_dual_at p m j a ∙ ap not (st j (rw block_dual at lo) (rw (depth_dual p k) at hi)))
-      (ap (λ n. clause_true a (among_first n (dual_prefix p) (negated_literals k))) (depth_dual p k) ∙ ap (clause_true a) (among_dual (cube_depth p k) p k) ∙ clause_negated a _ ∙ ap not h);
+      (λ j lo hi. value_dual_at p m j a ∙ ap not (st j lo (rw (depth_dual kept p k) at hi)))
+      (ap (λ n. clause_true a (among_first n (dual_prefix p) (negated_literals k))) (depth_dual kept p k) ∙ ap (clause_true a) (among_dual (cube_depth kept p k) p k) ∙ clause_negated a _ ∙ ap not h);
 }
 
 -- a cube is fine exactly where its negation is a fine clause of the dual
-pub cube_is_dual : (p : List Bound) (m : Assignment → Bool) (k : List Lit) → IsFineCube p m k ↔ IsFineClause (dual_prefix p) (λ a. not (m a)) (negated_literals k)
-cube_is_dual p m k = (clause_from_cube p m k, cube_from_clause p m k)
+pub cube_is_dual : (kept : ℕ) (p : List Bound) (m : Assignment → Bool) (k : List Lit) → IsFineCube kept p m k ↔ IsFineClause kept (dual_prefix p) (λ a. not (m a)) (negated_literals k)
+cube_is_dual kept p m k = (clause_from_cube kept p m k, cube_from_clause kept p m k)

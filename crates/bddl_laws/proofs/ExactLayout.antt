@@ -19,9 +19,9 @@ use Rattle.bddl_model.specs.Layout.{Sizes, sizes_of, ply_at, bounds, end, blocks
 use Rattle.bddl_model.specs.Exact.{coded_move, codes_legal, to_move, position, ply_from, next_ply, PlaysFrom, value_from, IsExact, IsExactForm}
 use Rattle.bddl_model.proofs.Assignments.{value-append}
 use Rattle.bddl_model.proofs.Tseitin.{compiled_value}
-use Rattle.bddl_model.specs.Encoding.{layout_of, MeetsConditions, form_of}
+use Rattle.bddl_model.specs.Encoding.{layout_of, MeetsConditions, circuit_form}
 use Rattle.bddl_laws.proofs.ExactGame.{plies_prefix, exact, black_illegal, sample_illegal, white_illegal}
-use Rattle.bddl_laws.proofs.Played.{side_after_is, ply_end_is_later, plies_end_is_later}
+use Rattle.bddl_laws.proofs.Played.{ply_end_is_later, plies_end_is_later}
 use Rattle.bddl_laws.proofs.PlayedClaims.{Carried, read, served, claims}
 use Rattle.bddl_laws.proofs.LayoutPrefix.{closing_prefix, layout_prefix, plies_and, drop_more, drop_ply, drop_sample, drop_plies}
 
@@ -64,7 +64,7 @@ module _ (s : Setup) (more : List Bound) (matrix : Assignment → Bool) (met : M
         let low = plies_end_is_later z k s.first 1 in
         ap (drop (v - 1)) (prefix_is ∙ ap (λ d. plies_and z behind d s.first 1) (sym adds_up))
         ∙ drop_plies z behind k n s.first 1 (v - 1) (omega arith)
-        ∙ ap (λ side. plies_and z behind n side v) (sym (side_after_is s.first ms) ∙ side_is)
+        ∙ ap (λ side. plies_and z behind n side v) side_is
 
     pub won : value_from prefix matrix v a ≡ win g (to_move s ms) (position s ms) (s.depth - k)
     won =
@@ -149,7 +149,7 @@ exact_alone s out met = subst (λ p. IsExact p out s) (append-nil (prefix_of (bl
 meets_as : (s : Setup) (out other : Assignment → Bool) → ((a : Assignment) → other a ≡ out a) → MeetsConditions s out → MeetsConditions s other
 meets_as s out other same met = record { marks = met.marks; are_shown = met.are_shown; tells = λ a. same a ∙ met.tells a }
 
-pub exact_form : (s : Setup) (c : Circuit) (out : Wire) → IsCircuit c → IsWire c out → c.inputs ≡ (layout_of s).inputs → MeetsConditions s (holds c out) → IsExactForm (form_of s c out) s
+pub exact_form : (s : Setup) (c : Circuit) (out : Wire) → IsCircuit c → IsWire c out → c.inputs ≡ (layout_of s).inputs → MeetsConditions s (holds c out) → IsExactForm (circuit_form s c out) s
 exact_form s c out good wire inputs met = (
   (suc (length c.gates), ap (λ v. prefix_of (blocks (layout_of s)) ++ bounds Exists v (suc (length c.gates))) (let e : suc c.inputs ≡ (layout_of s).inputs + 1 = omega (arith, inputs) in e)),
   exact_with s gates (clauses_true (circuit_clauses c out)) (meets_as s (holds c out) (value gates (clauses_true (circuit_clauses c out))) (λ a. compiled_value [] c out a good wire) met),

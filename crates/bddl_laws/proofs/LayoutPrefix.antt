@@ -7,10 +7,10 @@ use Rattle.bddl_model.specs.declared.formula.Quant.TheVariants.{Exists, All}
 use Rattle.bddl_model.specs.declared.formula.Bound.{Bound}
 use Rattle.bddl_model.specs.declared.game.Side.{Side}
 use Rattle.bddl_model.specs.declared.game.Side.TheVariants.{Black, White}
-use Rattle.bddl_model.specs.Game.{opponent}
+use Rattle.bddl_model.specs.Game.{opponent, side_after}
 use Rattle.bddl_model.specs.Setup.{Setup}
 use Rattle.bddl_model.specs.Layout.{Sizes, sizes_of, plies_end, ply_at, end, plies_blocks, blocks, bounds, prefix_of}
-use Rattle.bddl_model.specs.Encoding.{side_of, layout_of}
+use Rattle.bddl_model.specs.Encoding.{layout_of}
 use Rattle.bddl_model.proofs.Covering.{prefix_of-append}
 use Rattle.bddl_laws.proofs.Claiming.{closing}
 use Rattle.bddl_laws.proofs.ExactGame.{plies_prefix}
@@ -67,7 +67,7 @@ module _ (z : Sizes) (behind : List Bound) where
       ∙ append_assoc (bounds All (v + w) w) later behind
 
   -- so many plies
-  pub drop_plies : (k n : ℕ) (side : Side) (v m : ℕ) → v + m ≡ plies_end z k side v → drop m (plies_and (k + n) side v) ≡ plies_and n (side_of side k) (plies_end z k side v)
+  pub drop_plies : (k n : ℕ) (side : Side) (v m : ℕ) → v + m ≡ plies_end z k side v → drop m (plies_and (k + n) side v) ≡ plies_and n (side_after side k) (plies_end z k side v)
   drop_plies zero n side v m e = ap₂ (λ i j. drop i (plies_and j side v)) (let nothing : m ≡ 0 = omega arith in nothing) (let same : 0 + n ≡ n = omega arith in same)
   drop_plies (suc k) n side v m e =
       let next = end (ply_at z side v).code in

@@ -25,6 +25,8 @@ pub mod ResolvedCubes
 pub mod Reduction
 pub mod Originals
 pub mod Deciding
+pub mod FirstValues
+pub mod LinesOfPlay
 pub mod WorkedBounds
 pub mod FormBounds
 pub mod TrailDigits

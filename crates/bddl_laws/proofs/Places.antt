@@ -1,5 +1,5 @@
 -- Where in its prefix the variables of a constraint stand.
-use Rattle.std.proofs.Common.{◌≡◌, ℕ, zero, suc, ◌≤◌, ◌+◌, ◌-◌, Bool, true, false, ◌&&◌, ◌||◌, List, [], ◌∷◌, take, drop, length, if◌then◌else◌, ⊎_elim, refl, sym, ap, ◌∙◌, subst, arith, eqb-true, drop-drop}
+use Rattle.std.proofs.Common.{◌≡◌, ℕ, zero, suc, ◌≤◌, ◌+◌, ◌-◌, Bool, true, false, ◌&&◌, ◌||◌, List, [], ◌∷◌, take, drop, ⊎_elim, refl, sym, ap, ◌∙◌, subst, arith, eqb-true, drop-drop}
 use Rattle.std.specs.Prelude.{◌==◌}
 use Rattle.std.proofs.lemmas.Bool.{or_parts, or_cases, or_left, or_right, and_parts, and_from, false≢true, false_from_ne_true}
 use Rattle.bddl_model.specs.declared.formula.Quant.{Quant}
@@ -8,7 +8,7 @@ use Rattle.bddl_model.specs.declared.formula.Bound.{Bound}
 use Rattle.bddl_model.specs.declared.formula.Lit.{Lit}
 use Rattle.bddl_model.specs.Forms.{prefix_variables, AllApart}
 use Rattle.bddl_model.specs.FormulaText.{same_quant}
-use Rattle.bddl_model.specs.Fine.{first_block, up_to, last_named, clause_depth}
+use Rattle.bddl_model.specs.Fine.{up_to, last_named}
 use Rattle.bddl_model.proofs.Assignments.{binds}
 use Rattle.bddl_laws.proofs.Fitting.{names}
 
@@ -16,31 +16,6 @@ use Rattle.bddl_laws.proofs.Fitting.{names}
 abbrev pub binds_by : Quant → List Bound → ℕ → Bool
 binds_by q [] v = false
 binds_by q (b ∷ rest) v = (b.var.0 == v && same_quant b.quant q) || binds_by q rest v
-
--- ---- counts of variables are at most the prefix's length
-
-first_block_within : (q : Quant) (p : List Bound) → first_block q p ≤ length p
-first_block_within q [] = omega arith
-first_block_within q (x ∷ p) = at (same_quant x.quant q) (first_block_within q p)
-  where
-    at : (t : Bool) → first_block q p ≤ length p → (if t then suc (first_block q p) else 0) ≤ suc (length p)
-    at true h = omega arith
-    at false h = omega arith
-
-up_to_within : (n m : ℕ) (here : Bool) → n ≤ m → up_to n here ≤ suc m
-up_to_within zero m true h = omega arith
-up_to_within zero m false h = omega arith
-up_to_within (suc n) m here h = omega arith
-
-last_named_within : (q : Quant) (p : List Bound) (c : List Lit) → last_named q p c ≤ length p
-last_named_within q [] c = omega arith
-last_named_within q (x ∷ p) c = up_to_within _ _ _ (last_named_within q p c)
-
-pub depth_within : (p : List Bound) (c : List Lit) → clause_depth p c ≤ length p
-depth_within p c = omega (arith, first_block_within All p, last_named_within Exists p c)
-
-pub block_within : (p : List Bound) → first_block All p ≤ length p
-block_within p = first_block_within All p
 
 -- ---- the first variables, and the others
 

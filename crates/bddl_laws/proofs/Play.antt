@@ -1,5 +1,5 @@
 -- A value that is true can be played to the end, with any values of the universal variables.
-use Rattle.std.proofs.Common.{◌≡◌, ℕ, zero, suc, ◌≤◌, Bool, true, false, ◌&&◌, ◌||◌, List, [], ◌∷◌, drop, length, ◌⊎◌, inl, inr, ⊎_elim, refl, sym, ap, ◌∙◌, arith, eqb-true}
+use Rattle.std.proofs.Common.{◌≡◌, ℕ, zero, suc, Bool, true, false, ◌&&◌, ◌||◌, List, [], ◌∷◌, drop, ◌⊎◌, inl, inr, ⊎_elim, refl, sym, ap, ◌∙◌, eqb-true}
 use Rattle.std.specs.Prelude.{◌==◌}
 use Rattle.std.proofs.lemmas.Bool.{or_cases, and_parts, false≢true}
 use Rattle.bddl_model.specs.declared.formula.Quant.{Quant}
@@ -14,22 +14,22 @@ use Rattle.bddl_laws.proofs.Places.{binds_by}
 -- b goes on from a to the end: the value stays true, and the universal variables are those of t
 pub record Played (rest : List Bound) (m : Assignment → Bool) (t a b : Assignment) : Type 0 where
   pub same : SameOutside rest a b
-  pub won : (j : ℕ) → j ≤ length rest → value (drop j rest) m b ≡ true
+  pub won : (j : ℕ) → value (drop j rest) m b ≡ true
   pub free : (v : ℕ) → binds_by All rest v ≡ true → b v ≡ t v
 
-won_cons : (x : Bound) (rest : List Bound) (m : Assignment → Bool) (b : Assignment) → value (x ∷ rest) m b ≡ true → ((j : ℕ) → j ≤ length rest → value (drop j rest) m b ≡ true) → (j : ℕ) → j ≤ length (x ∷ rest) → value (drop j (x ∷ rest)) m b ≡ true
-won_cons x rest m b h w zero le = h
-won_cons x rest m b h w (suc j) le = w j (omega arith)
+won_cons : (x : Bound) (rest : List Bound) (m : Assignment → Bool) (b : Assignment) → value (x ∷ rest) m b ≡ true → ((j : ℕ) → value (drop j rest) m b ≡ true) → (j : ℕ) → value (drop j (x ∷ rest)) m b ≡ true
+won_cons x rest m b h w zero = h
+won_cons x rest m b h w (suc j) = w j
 
 bound_later : (x : Bound) (rest : List Bound) (v : ℕ) → x.quant ≡ Exists → binds_by All (x ∷ rest) v ≡ true → binds_by All rest v ≡ true
 bound_later x rest v e h = ⊎_elim (λ p. absurd (false≢true (sym (ap (λ q. same_quant q All) e) ∙ (and_parts (x.var.0 == v) _ p).1))) (λ p. p) (or_cases (x.var.0 == v && same_quant x.quant All) (binds_by All rest v) h)
 
 pub extend : (rest : List Bound) (m : Assignment → Bool) (t a : Assignment) → AllApart (prefix_variables rest) → value rest m a ≡ true → (b : Assignment) × Played rest m t a b
-extend [] m t a d h = (a, record { same = λ w o. refl; won = λ j le. won j le; free = λ v e. absurd (false≢true e) })
+extend [] m t a d h = (a, record { same = λ w o. refl; won = λ j. won j; free = λ v e. absurd (false≢true e) })
   where
-    won : (j : ℕ) → j ≤ 0 → value (drop j []) m a ≡ true
-    won zero le = h
-    won (suc j) le = h
+    won : (j : ℕ) → value (drop j []) m a ≡ true
+    won zero = h
+    won (suc j) = h
 extend (x ∷ rest) m t a d h = by_quantifier x.quant refl (λ v w. extend rest m t (assign x.var.0 v a) d.1 w)
   where
     step : (v : Bool) → ((w : ℕ) → binds_by All (x ∷ rest) w ≡ true → (binds_by All rest w ≡ true) ⊎ ((x.var.0 ≡ w) × (v ≡ t w))) → (b : Assignment) × Played rest m t (assign x.var.0 v a) b → (b : Assignment) × Played (x ∷ rest) m t a b

@@ -1,19 +1,18 @@
 -- An assignment that plays moves plays the first few of them, and one more where its next codes are legal; so does one that agrees on their bits.
-use Rattle.std.proofs.Common.{◌≡◌, ℕ, zero, suc, ◌≤◌, ◌<◌, ◌+◌, true, false, List, [], ◌∷◌, ◌++◌, length, take, refl, sym, ap, ◌∙◌, arith, Some}
-use Rattle.std.specs.Prelude.{slice_get}
+use Rattle.std.proofs.Common.{◌≡◌, ℕ, zero, suc, ◌≤◌, ◌<◌, ◌+◌, true, false, List, [], ◌∷◌, ◌++◌, length, take, refl, sym, ap, ◌∙◌, arith}
 use Rattle.bddl_model.specs.declared.game.Side.{Side}
 use Rattle.bddl_model.specs.declared.game.Side.TheVariants.{Black, White}
 use Rattle.bddl_model.specs.declared.game.Move.{Move}
 use Rattle.bddl_model.specs.declared.game.PlyBits.{PlyBits}
 use Rattle.bddl_model.specs.Truth.{Assignment}
-use Rattle.bddl_model.specs.Game.{Game, opponent}
+use Rattle.bddl_model.specs.Game.{Game, opponent, side_after}
 use Rattle.bddl_model.specs.Board.{Board}
 use Rattle.bddl_model.specs.Moves.{legal, after}
 use Rattle.bddl_model.specs.Goal.{goal}
-use Rattle.bddl_model.specs.Layout.{Sizes, sizes_of, ply_at, plies_at, plies_end, end}
-use Rattle.bddl_model.specs.Exact.{coded_move, own_code, side_after, board_after, Plays}
+use Rattle.bddl_model.specs.Layout.{Sizes, sizes_of, ply_at, plies_end, end}
+use Rattle.bddl_model.specs.Exact.{coded_move, own_code, board_after, Plays}
 use Rattle.bddl_model.proofs.Blocks.{SameBelow}
-use Rattle.bddl_model.specs.Encoding.{AreCoded, side_of, move_tests}
+use Rattle.bddl_model.specs.Encoding.{AreCoded, move_tests}
 use Rattle.bddl_laws.proofs.Codes.{legal_same, move_same}
 use Rattle.bddl_laws.proofs.GameTests.{move_tests_same}
 
@@ -32,27 +31,17 @@ more_plies_end_later z zero n side v le = plies_end_is_later z n side v
 more_plies_end_later z (suc k) zero side v le = absurd (omega arith)
 more_plies_end_later z (suc k) (suc n) side v le = more_plies_end_later z k n (opponent side) (end (ply_at z side v).code) (omega arith)
 
-pub plies_end-suc : (z : Sizes) (k : ℕ) (side : Side) (v : ℕ) → plies_end z (suc k) side v ≡ end (ply_at z (side_of side k) (plies_end z k side v)).code
+pub plies_end-suc : (z : Sizes) (k : ℕ) (side : Side) (v : ℕ) → plies_end z (suc k) side v ≡ end (ply_at z (side_after side k) (plies_end z k side v)).code
 plies_end-suc z zero side v = refl
 plies_end-suc z (suc k) side v = plies_end-suc z k (opponent side) (end (ply_at z side v).code)
 
--- the plies of a layout, by their numbers
-pub plies_listed : (z : Sizes) (n i : ℕ) (side : Side) (v : ℕ) → i < n → slice_get (plies_at z n side v) i ≡ Some (ply_at z (side_of side i) (plies_end z i side v))
-plies_listed z zero i side v lt = absurd (omega arith)
-plies_listed z (suc n) zero side v lt = refl
-plies_listed z (suc n) (suc i) side v lt = plies_listed z n i (opponent side) (end (ply_at z side v).code) (omega arith)
-
-pub side_after_is : (side : Side) (ms : List Move) → side_after side ms ≡ side_of side (length ms)
-side_after_is side [] = refl
-side_after_is side (m ∷ ms) = side_after_is (opponent side) ms
-
 -- ---- one move more
 
-pub side_after-more : (side : Side) (ms : List Move) (m : Move) → side_after side (ms ++ m ∷ []) ≡ opponent (side_after side ms)
+pub side_after-more : (side : Side) (ms : List Move) (m : Move) → side_after side (length (ms ++ m ∷ [])) ≡ opponent (side_after side (length ms))
 side_after-more side [] m = refl
 side_after-more side (l ∷ ms) m = side_after-more (opponent side) ms m
 
-pub board_after-more : (g : Game) (side : Side) (b : Board) (ms : List Move) (m : Move) → board_after g side b (ms ++ m ∷ []) ≡ after g (board_after g side b ms) (side_after side ms) m
+pub board_after-more : (g : Game) (side : Side) (b : Board) (ms : List Move) (m : Move) → board_after g side b (ms ++ m ∷ []) ≡ after g (board_after g side b ms) (side_after side (length ms)) m
 board_after-more g side b [] m = refl
 board_after-more g side b (l ∷ ms) m = board_after-more g (opponent side) (after g b side l) ms m
 
@@ -62,7 +51,7 @@ module _ (g : Game) (depth : ℕ) where
 
   -- the bits of the ply behind these moves
   abbrev pub ply_behind : Side → ℕ → List Move → PlyBits
-  ply_behind side v ms = ply_at z (side_after side ms) (plies_end z (length ms) side v)
+  ply_behind side v ms = ply_at z (side_after side (length ms)) (plies_end z (length ms) side v)
 
   pub plies_end-more : (side : Side) (v : ℕ) (ms : List Move) (m : Move) → plies_end z (length (ms ++ m ∷ [])) side v ≡ end (ply_behind side v ms).code
   plies_end-more side v [] m = refl
@@ -70,9 +59,9 @@ module _ (g : Game) (depth : ℕ) where
 
   pub plays_more : (a : Assignment) (side : Side) (b : Board) (v : ℕ) (ms : List Move) → Plays g depth a side b v ms
       → goal g (board_after g side b ms) Black ≡ false → goal g (board_after g side b ms) White ≡ false
-      → legal g (board_after g side b ms) (side_after side ms) (coded_move g (side_after side ms) a (own_code (ply_behind side v ms))) ≡ true
-      → legal g (board_after g side b ms) (side_after side ms) (coded_move g (side_after side ms) a (ply_behind side v ms).code) ≡ true
-      → Plays g depth a side b v (ms ++ coded_move g (side_after side ms) a (ply_behind side v ms).code ∷ [])
+      → legal g (board_after g side b ms) (side_after side (length ms)) (coded_move g (side_after side (length ms)) a (own_code (ply_behind side v ms))) ≡ true
+      → legal g (board_after g side b ms) (side_after side (length ms)) (coded_move g (side_after side (length ms)) a (ply_behind side v ms).code) ≡ true
+      → Plays g depth a side b v (ms ++ coded_move g (side_after side (length ms)) a (ply_behind side v ms).code ∷ [])
   plays_more a side b v [] h gb gw own code = (gb, gw, own, code, refl, tt)
   plays_more a side b v (m ∷ ms) h gb gw own code =
       (h.0, h.1, h.2, h.3, h.4, plays_more a (opponent side) (after g b side m) (end (ply_at z side v).code) ms h.5 gb gw own code)
@@ -96,7 +85,7 @@ module _ (g : Game) (depth : ℕ) where
     pub code : legal g board side (coded_move g side a ply.code) ≡ true
 
   pub plays_at : (a : Assignment) (side : Side) (b : Board) (v i : ℕ) (ms : List Move) → Plays g depth a side b v ms → i < length ms
-      → Moment a (side_of side i) (board_after g side b (take i ms)) (ply_at z (side_of side i) (plies_end z i side v))
+      → Moment a (side_after side i) (board_after g side b (take i ms)) (ply_at z (side_after side i) (plies_end z i side v))
   plays_at a side b v i [] h lt = absurd (omega arith)
   plays_at a side b v zero (m ∷ ms) h lt = record { no_black = h.0; no_white = h.1; own = h.2; code = ap (legal g b side) h.4 ∙ h.3 }
   plays_at a side b v (suc i) (m ∷ ms) h lt = plays_at a (opponent side) (after g b side m) (end (ply_at z side v).code) i ms h.5 (omega arith)

@@ -15,11 +15,11 @@ use Rattle.bddl_model.specs.Layout.{Sizes, sizes_of, span, ply_at, bounds, end}
 use Rattle.bddl_model.specs.Exact.{coded_move, own_code, to_move, position, ply_from, PlaysFrom}
 use Rattle.bddl_model.proofs.Assignments.{SameOutside}
 use Rattle.bddl_model.proofs.Blocks.{SameBelow}
-use Rattle.bddl_model.specs.Encoding.{side_of, layout_of, MeetsConditions}
+use Rattle.bddl_model.specs.Encoding.{layout_of, MeetsConditions}
 use Rattle.bddl_laws.proofs.Claiming.{closing}
 use Rattle.bddl_laws.proofs.Codes.{writes_code, legal_same}
 use Rattle.bddl_laws.proofs.ExactGame.{code_size, Claims}
-use Rattle.bddl_laws.proofs.Played.{side_after_is, side_after-more, board_after-more, plies_end-more, plays_more, plays_same}
+use Rattle.bddl_laws.proofs.Played.{side_after-more, board_after-more, plies_end-more, plays_more, plays_same}
 use Rattle.bddl_laws.proofs.ClosingInputs.{claim_span, attack_span}
 use Rattle.bddl_laws.proofs.ServedClaims as after_moves
 
@@ -51,13 +51,6 @@ module _ (s : Setup) where
     -- what is said of the last position
     there : {X : Type 0} (f : Side → ℕ → Board → X) → f (to_move s c.moves) (ply_from s (length c.moves)) (position s c.moves) ≡ f side v board
     there f = ap₂ (λ x y. f x y (position s c.moves)) c.side_is c.from_is ∙ ap (f side v) c.board_is
-
-    pub next_side_is : side_of s.first (length c.moves) ≡ side
-    next_side_is = sym (side_after_is s.first c.moves) ∙ c.side_is
-
-    -- and by the number of moves
-    pub counted : {X : Type 0} (f : Side → ℕ → Board → X) → f (side_of s.first (length c.moves)) (ply_from s (length c.moves)) (position s c.moves) ≡ f side v board
-    counted f = ap₂ (λ x y. f x y (position s c.moves)) next_side_is c.from_is ∙ ap (f side v) c.board_is
 
     pub carried_same : (other : Assignment) → SameBelow v a other → Carried s n side v board other
     carried_same other same = record {
@@ -117,8 +110,8 @@ module _ (s : Setup) where
       white_stands = λ n side v b a c nb h. after_moves.white_stands s out met a c.moves c.plays (there n side v b a c (λ x y d. goal g d Black) ∙ nb) (there n side v b a c (λ x y d. goal g d White) ∙ h);
       spent = λ side v b a c nb. after_moves.spent s out met a c.moves c.plays (omega (arith, c.adds_up)) (there 0 side v b a c (λ x y d. goal g d Black) ∙ nb);
       own_illegal = λ n side v b a c nb illegal. after_moves.own_illegal s out met a c.moves c.plays (there (suc n) side v b a c (λ x y d. goal g d Black) ∙ nb)
-          (counted (suc n) side v b a c (λ x y d. legal g d x (coded_move g x a (own_code (ply_at z x y)))) ∙ ap (legal g b side) (own_read side v a) ∙ illegal);
-      code_illegal = λ n v b a c nw sample illegal. after_moves.code_illegal s out met a c.moves c.plays (omega (arith, c.adds_up)) (next_side_is (suc n) White v b a c) (there (suc n) White v b a c (λ x y d. goal g d White) ∙ nw)
-          (counted (suc n) White v b a c (λ x y d. legal g d x (coded_move g x a (own_code (ply_at z x y)))) ∙ sample)
-          (counted (suc n) White v b a c (λ x y d. legal g d x (coded_move g x a (ply_at z x y).code)) ∙ illegal);
+          (there (suc n) side v b a c (λ x y d. legal g d x (coded_move g x a (own_code (ply_at z x y)))) ∙ ap (legal g b side) (own_read side v a) ∙ illegal);
+      code_illegal = λ n v b a c nw sample illegal. after_moves.code_illegal s out met a c.moves c.plays (omega (arith, c.adds_up)) c.side_is (there (suc n) White v b a c (λ x y d. goal g d White) ∙ nw)
+          (there (suc n) White v b a c (λ x y d. legal g d x (coded_move g x a (own_code (ply_at z x y)))) ∙ sample)
+          (there (suc n) White v b a c (λ x y d. legal g d x (coded_move g x a (ply_at z x y).code)) ∙ illegal);
     }

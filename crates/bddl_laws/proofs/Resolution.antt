@@ -1,14 +1,15 @@
 -- A resolvent survives where both clauses do, and so it is fine.
 use Rattle.std.proofs.Common.{◌≡◌, ℕ, Bool, true, false, not, ◌&&◌, ◌||◌, List, [], ◌∷◌, filter, if◌then◌else◌, ◌⊎◌, inl, inr, ⊎_elim, refl, sym, ap, ◌∙◌, subst, eqb-true}
 use Rattle.std.specs.Prelude.{◌==◌}
+use Rattle.std.specs.Bool.{beq}
 use Rattle.std.proofs.lemmas.Bool.{or_cases, or_left, or_right, and_parts, false≢true}
 use Rattle.std.proofs.lemmas.List.Folds.{list_any-append}
 use Rattle.bddl_model.specs.declared.formula.Bound.{Bound}
 use Rattle.bddl_model.specs.declared.formula.Lit.{Lit}
 use Rattle.bddl_model.specs.Truth.{Assignment, literal_true, clause_true}
-use Rattle.bddl_model.specs.Forms.{prefix_variables, AllApart}
+use Rattle.bddl_model.specs.Forms.{prefix_variables, AllApart, has_literal}
 use Rattle.bddl_model.specs.Fine.{IsFineClause}
-use Rattle.bddl_model.specs.Resolution.{same_sign, has_literal, NoOpposites, without, joined, resolvent, OneSign}
+use Rattle.bddl_model.specs.Resolution.{NoOpposites, without, joined, resolvent, OneSign}
 use Rattle.bddl_laws.proofs.Literals.{sign_first, sign_rest}
 use Rattle.bddl_laws.proofs.Survival.{Survives, survives_from_fine, fine_from_survives}
 use Rattle.bddl_laws.proofs.Resolvents.{resolvent_fits_prefix}
@@ -17,9 +18,9 @@ use Rattle.bddl_laws.proofs.Resolvents.{resolvent_fits_prefix}
 
 pub true_at : (a : Assignment) (c : List Lit) (l : Lit) → has_literal c l ≡ true → literal_true a l ≡ true → clause_true a c ≡ true
 true_at a [] l h t = absurd (false≢true h)
-true_at a (x ∷ c) l h t = ⊎_elim (λ e. or_left _ _ (let p = and_parts _ _ e in same (eqb-true l.var.0 x.var.0 p.0) l.negated x.negated p.1 t)) (λ r. or_right _ _ (true_at a c l r t)) (or_cases (l.var.0 == x.var.0 && same_sign l.negated x.negated) (has_literal c l) h)
+true_at a (x ∷ c) l h t = ⊎_elim (λ e. or_left _ _ (let p = and_parts _ _ e in same (eqb-true l.var.0 x.var.0 p.0) l.negated x.negated p.1 t)) (λ r. or_right _ _ (true_at a c l r t)) (or_cases (l.var.0 == x.var.0 && beq l.negated x.negated) (has_literal c l) h)
   where
-    same : l.var.0 ≡ x.var.0 → (m n : Bool) → same_sign m n ≡ true → (if m then not (a l.var.0) else a l.var.0) ≡ true → (if n then not (a x.var.0) else a x.var.0) ≡ true
+    same : l.var.0 ≡ x.var.0 → (m n : Bool) → beq m n ≡ true → (if m then not (a l.var.0) else a l.var.0) ≡ true → (if n then not (a x.var.0) else a x.var.0) ≡ true
     same e true true s t = subst (λ v. not (a v) ≡ true) e t
     same e true false s t = absurd (false≢true s)
     same e false true s t = absurd (false≢true s)
@@ -77,8 +78,8 @@ true_without a v n (l ∷ c) e s h = at (l.var.0 == v) refl (or_cases (literal_t
 
 -- ---- the resolvent
 
-pub survives_resolved : (prefix : List Bound) (m : Assignment → Bool) (v : ℕ) (n : Bool) (left right : List Lit) → OneSign v n left → OneSign v (not n) right → Survives prefix m left → Survives prefix m right → Survives prefix m (resolvent v left right)
-survives_resolved prefix m v n left right p q s t = record { holds = λ a st. joined_true a (without v left) (without v right) (at a n p q (a v) refl (s.holds a st) (t.holds a st)) }
+pub survives_resolved : (kept : ℕ) (prefix : List Bound) (m : Assignment → Bool) (v : ℕ) (n : Bool) (left right : List Lit) → OneSign v n left → OneSign v (not n) right → Survives kept prefix m left → Survives kept prefix m right → Survives kept prefix m (resolvent v left right)
+survives_resolved kept prefix m v n left right p q s t = record { holds = λ a st. joined_true a (without v left) (without v right) (at a n p q (a v) refl (s.holds a st) (t.holds a st)) }
   where
     at : (a : Assignment) (n : Bool) → OneSign v n left → OneSign v (not n) right → (x : Bool) → a v ≡ x → clause_true a left ≡ true → clause_true a right ≡ true → (clause_true a (without v left) ≡ true) ⊎ (clause_true a (without v right) ≡ true)
     at a false p q true e l r = inr (true_without a v true right e q r)
@@ -86,7 +87,7 @@ survives_resolved prefix m v n left right p q s t = record { holds = λ a st. jo
     at a true p q true e l r = inl (true_without a v true left e p l)
     at a true p q false e l r = inr (true_without a v false right e q r)
 
-pub fine_resolved : (prefix : List Bound) (m : Assignment → Bool) (v : ℕ) (n : Bool) (left right : List Lit) → AllApart (prefix_variables prefix) → IsFineClause prefix m left → IsFineClause prefix m right → OneSign v n left → OneSign v (not n) right → NoOpposites (resolvent v left right) → IsFineClause prefix m (resolvent v left right)
-fine_resolved prefix m v n left right d f g p q alone =
-    fine_from_survives prefix m (resolvent v left right) d (resolvent_fits_prefix prefix v left right f.fits g.fits alone)
-    (survives_resolved prefix m v n left right p q (survives_from_fine prefix m left f) (survives_from_fine prefix m right g))
+pub fine_resolved : (kept : ℕ) (prefix : List Bound) (m : Assignment → Bool) (v : ℕ) (n : Bool) (left right : List Lit) → AllApart (prefix_variables prefix) → IsFineClause kept prefix m left → IsFineClause kept prefix m right → OneSign v n left → OneSign v (not n) right → NoOpposites (resolvent v left right) → IsFineClause kept prefix m (resolvent v left right)
+fine_resolved kept prefix m v n left right d f g p q alone =
+    fine_from_survives kept prefix m (resolvent v left right) d (resolvent_fits_prefix prefix v left right f.fits g.fits alone)
+    (survives_resolved kept prefix m v n left right p q (survives_from_fine kept prefix m left f) (survives_from_fine kept prefix m right g))

@@ -4,9 +4,9 @@ use Rattle.std.specs.Prelude.{◌==◌}
 use Rattle.bddl_model.specs.declared.formula.Bound.{Bound}
 use Rattle.bddl_model.specs.declared.formula.Lit.{Lit}
 use Rattle.bddl_model.specs.Truth.{Assignment, negation}
-use Rattle.bddl_model.specs.Forms.{prefix_variables, AllApart}
+use Rattle.bddl_model.specs.Forms.{prefix_variables, AllApart, has_literal}
 use Rattle.bddl_model.specs.Fine.{IsFineCube}
-use Rattle.bddl_model.specs.Resolution.{has_literal, NoOpposites, without, joined, resolvent, OneSign}
+use Rattle.bddl_model.specs.Resolution.{NoOpposites, without, joined, resolvent, OneSign}
 use Rattle.bddl_model.specs.Dual.{dual_prefix, negated_literals}
 use Rattle.bddl_laws.proofs.Duality.{apart_dual, fits_dual, filter_negated, clause_from_cube, cube_from_clause}
 use Rattle.bddl_laws.proofs.Literals.{has_both_negated, sign_negated}
@@ -27,11 +27,11 @@ resolvent_negated v c d =
     others : (c : List Lit) → without v (negated_literals c) ≡ negated_literals (without v c)
     others c = filter_negated (λ l. not (l.var.0 == v)) (λ l. not (l.var.0 == v)) c (λ l. refl)
 
-pub fine_resolved_cube : (prefix : List Bound) (m : Assignment → Bool) (v : ℕ) (n : Bool) (left right : List Lit) → AllApart (prefix_variables prefix) → IsFineCube prefix m left → IsFineCube prefix m right → OneSign v n left → OneSign v (not n) right → NoOpposites (resolvent v left right) → IsFineCube prefix m (resolvent v left right)
-fine_resolved_cube prefix m v n left right d f g p q alone =
-    cube_from_clause prefix m (resolvent v left right) (fine_from_survives (dual_prefix prefix) (λ a. not (m a)) (negated_literals (resolvent v left right)) (apart_dual prefix d)
+pub fine_resolved_cube : (kept : ℕ) (prefix : List Bound) (m : Assignment → Bool) (v : ℕ) (n : Bool) (left right : List Lit) → AllApart (prefix_variables prefix) → IsFineCube kept prefix m left → IsFineCube kept prefix m right → OneSign v n left → OneSign v (not n) right → NoOpposites (resolvent v left right) → IsFineCube kept prefix m (resolvent v left right)
+fine_resolved_cube kept prefix m v n left right d f g p q alone =
+    cube_from_clause kept prefix m (resolvent v left right) (fine_from_survives kept (dual_prefix prefix) (λ a. not (m a)) (negated_literals (resolvent v left right)) (apart_dual prefix d)
     (fits_dual prefix (resolvent v left right) (resolvent_fits_prefix prefix v left right f.fits g.fits alone))
-    (subst (Survives (dual_prefix prefix) (λ a. not (m a))) (resolvent_negated v left right)
-    (survives_resolved (dual_prefix prefix) (λ a. not (m a)) v (not n) (negated_literals left) (negated_literals right) (sign_negated v n left p) (sign_negated v (not n) right q)
-    (survives_from_fine (dual_prefix prefix) (λ a. not (m a)) (negated_literals left) (clause_from_cube prefix m left f))
-    (survives_from_fine (dual_prefix prefix) (λ a. not (m a)) (negated_literals right) (clause_from_cube prefix m right g)))))
+    (subst (Survives kept (dual_prefix prefix) (λ a. not (m a))) (resolvent_negated v left right)
+    (survives_resolved kept (dual_prefix prefix) (λ a. not (m a)) v (not n) (negated_literals left) (negated_literals right) (sign_negated v n left p) (sign_negated v (not n) right q)
+    (survives_from_fine kept (dual_prefix prefix) (λ a. not (m a)) (negated_literals left) (clause_from_cube kept prefix m left f))
+    (survives_from_fine kept (dual_prefix prefix) (λ a. not (m a)) (negated_literals right) (clause_from_cube kept prefix m right g)))))

@@ -6,8 +6,8 @@ use Rattle.std.proofs.lemmas.List.Folds.{list_any-append}
 use Rattle.bddl_model.specs.declared.formula.Bound.{Bound}
 use Rattle.bddl_model.specs.declared.formula.Lit.{Lit}
 use Rattle.bddl_model.specs.Truth.{negation}
-use Rattle.bddl_model.specs.Forms.{FitsPrefix}
-use Rattle.bddl_model.specs.Resolution.{same_literal, has_literal, NoOpposites, without, joined, resolvent}
+use Rattle.bddl_model.specs.Forms.{FitsPrefix, same_literal, has_literal}
+use Rattle.bddl_model.specs.Resolution.{NoOpposites, without, joined, resolvent}
 use Rattle.bddl_laws.proofs.Fitting.{names, fits_fewer, fits-append}
 use Rattle.bddl_laws.proofs.Literals.{has_first, has_either}
 

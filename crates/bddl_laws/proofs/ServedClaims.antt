@@ -9,7 +9,7 @@ use Rattle.bddl_model.specs.declared.game.Move.{Move}
 use Rattle.bddl_model.specs.declared.game.PlyBits.{PlyBits}
 use Rattle.bddl_model.specs.Truth.{Assignment, value}
 use Rattle.bddl_model.specs.Bits.{bits}
-use Rattle.bddl_model.specs.Game.{Game, actions}
+use Rattle.bddl_model.specs.Game.{Game, actions, side_after}
 use Rattle.bddl_model.specs.Moves.{legal}
 use Rattle.bddl_model.specs.Goal.{goal}
 use Rattle.bddl_model.specs.Setup.{Setup}
@@ -20,7 +20,7 @@ use Rattle.bddl_model.proofs.Assignments.{SameOutside, same_at_all}
 use Rattle.bddl_model.proofs.Blocks.{SameBelow, below_block}
 use Rattle.bddl_model.proofs.Bits.{bits_enough}
 use Rattle.bddl_model.proofs.Numbers.{number_below}
-use Rattle.bddl_model.specs.Encoding.{line_tests, move_tests, shown, side_of, ply_bits, ply_read, layout_of, claim_read, attack_read, refuting_read, place_read, MeetsConditions}
+use Rattle.bddl_model.specs.Encoding.{line_tests, move_tests, shown, ply_bits, ply_read, layout_of, claim_read, attack_read, refuting_read, place_read, MeetsConditions}
 use Rattle.bddl_laws.proofs.Tests.{Marks, all_hold, tests_hold}
 use Rattle.bddl_laws.proofs.Serving.{LineOf, NoneHolds, tests_in, IsNumberIn, History, Answered, Fails, goal_serves, illegal_serves, refusing_number, white_goal_refutes, spent_refutes, illegal_refutes, conditions_same}
 use Rattle.bddl_laws.proofs.Claiming.{closing, some_claim_serves, each_claim_fails}
@@ -47,7 +47,7 @@ module _ (s : Setup) where
   -- the plies up to the depth are read from their own bits
   ply_same : (a other : Assignment) → SameBelow (plies_over s) a other → (i : ℕ) → i < s.depth → ply_read s a i ≡ ply_read s other i
   ply_same a other same i lt =
-      let side = side_of s.first i in
+      let side = side_after s.first i in
       let v = ply_from s i in
       let ends : end (ply_at z side v).code ≤ plies_over s = omega (arith, plies_end-suc z i s.first 1, more_plies_end_later z (suc i) s.depth s.first 1 lt) in
       ap₂ (λ x y. record { side = side; own = x; code = y })
@@ -67,7 +67,7 @@ module _ (s : Setup) (out : Assignment → Bool) (met : MeetsConditions s out) (
   abbrev pub served : Bool
   served = value (closing (claim_span s) (attack_span s) (layout_of s).refuting (layout_of s).place) out a
 
-  moment : (i : ℕ) → i < k → Moment g s.depth a (side_of s.first i) (position s (take i ms)) (ply_bits s i)
+  moment : (i : ℕ) → i < k → Moment g s.depth a (side_after s.first i) (position s (take i ms)) (ply_bits s i)
   moment i lt = plays_at g s.depth a s.first s.board 1 i ms played.1 lt
 
   history : History (IsPlace g) (IsLine g Black) (IsLine g White) s.depth k (ply_read s a) boards
@@ -76,10 +76,10 @@ module _ (s : Setup) (out : Assignment → Bool) (met : MeetsConditions s out) (
     some_place = (record { x = 1; y = 1 }, corner g);
     black_cells = line_places g Black;
     white_cells = line_places g White;
-    own_cells = λ i. move_places g (side_of s.first i) _;
-    code_cells = λ i. move_places g (side_of s.first i) _;
-    own_legal = λ i lt. move_tests_hold g (position s (take i ms)) (side_of s.first i) _ ∙ (moment i lt).own;
-    code_legal = λ i lt. move_tests_hold g (position s (take i ms)) (side_of s.first i) _ ∙ (moment i lt).code;
+    own_cells = λ i. move_places g (side_after s.first i) _;
+    code_cells = λ i. move_places g (side_after s.first i) _;
+    own_legal = λ i lt. move_tests_hold g (position s (take i ms)) (side_after s.first i) _ ∙ (moment i lt).own;
+    code_legal = λ i lt. move_tests_hold g (position s (take i ms)) (side_after s.first i) _ ∙ (moment i lt).code;
     no_black = λ i lt. no_line_holds g Black (position s (take i ms)) (moment i lt).no_black;
     no_white = λ i lt. no_line_holds g White (position s (take i ms)) (moment i lt).no_white;
   }
@@ -212,7 +212,7 @@ module _ (s : Setup) (out : Assignment → Bool) (met : MeetsConditions s out) (
   next = ply_bits s k
 
   abbrev pub next_side : Side
-  next_side = side_of s.first k
+  next_side = side_after s.first k
 
   tests_on_last : (m : Move) → tests_hold (boards k) (move_tests g next_side m) ≡ legal g (position s ms) next_side m
   tests_on_last m = move_tests_hold g (position s (take k ms)) next_side m ∙ ap (λ l. legal g (position s l) next_side m) all_taken

@@ -7,8 +7,9 @@ ghost use Rattle.bddl_model.specs.Truth.{Assignment, value};
 ghost use Rattle.bddl_model.specs.Circuit.{Circuit, IsCircuit, IsWire, holds};
 ghost use Rattle.bddl_model.specs.Setup.{Setup};
 ghost use Rattle.bddl_model.specs.Layout.{blocks, layout, prefix_of};
-ghost use Rattle.bddl_model.specs.Exact.{IsExact, IsExactForm};
-ghost use Rattle.bddl_model.specs.Encoding.{MeetsConditions, form_of};
+ghost use Rattle.bddl_model.specs.declared.game.Move.{Move};
+ghost use Rattle.bddl_model.specs.Exact.{MayPlayFrom, PlaysFrom, IsExact, IsExactForm};
+ghost use Rattle.bddl_model.specs.Encoding.{MeetsConditions, circuit_form};
 
 /// A law: a test of the inputs that meets the conditions of the encoding says of every position of
 /// the game what can be forced from there. So does a test whose value under further quantifiers
@@ -22,6 +23,12 @@ pub fn served_claims_are_exact()
         → IsExact (prefix_of (blocks (layout s.game s.first s.depth)) ++ rest) matrix s }
     ensures circuit { (s : Setup) (c : Circuit) (out : Wire)
         → IsCircuit c → IsWire c out → c.inputs ≡ (layout s.game s.first s.depth).inputs → MeetsConditions s (holds c out)
-        → IsExactForm (form_of s c out) s }
+        → IsExactForm (circuit_form s c out) s }
     ensures some { (s : Setup) → (out : Assignment → Bool) × MeetsConditions s out }
+{}
+
+/// A law: what a test that is exact says, it says of every line of play. Some assignment plays any
+/// moves that may be played from the start.
+pub fn lines_of_play_are_played()
+    ensures { (s : Setup) (ms : List Move) → MayPlayFrom s ms → (a : Assignment) × PlaysFrom s a ms }
 {}

@@ -5,13 +5,15 @@
 //! reduction keep them, and what a form's value is where one has no literal left. Begin with
 //! `bddl_model/specs/Fine.antt`. `exactness` says why the encoding says of every position what can be
 //! forced from there; begin with `bddl_model/specs/Conditions.antt`. `circuits` says what the clauses of
-//! a circuit mean, and `bounds` how large a form gets and how many steps a search over it takes.
+//! a circuit mean, `texts` that a form is read from its text, and `bounds` how large a form gets and how
+//! many steps a search over it takes.
 #![tactic(auto)]
 
 mod bounds;
 mod circuits;
 mod constraints;
 mod exactness;
+mod texts;
 
 pub use bounds::{
     circuit_tail_holds_the_gates, flip_keeps_steps_within, form_bound_is_at_most_game_bound,
@@ -20,8 +22,9 @@ pub use bounds::{
 };
 pub use circuits::{circuit_clauses_hold, growth_keeps_words};
 pub use constraints::{
-    clause_decides, cube_decides, cubes_are_dual, first_cube_is_fine, original_clause_is_fine,
-    reduced_clause_is_fine, reduced_cube_is_fine, resolved_clause_is_fine, resolved_cube_is_fine,
-    resolvent_fits,
+    clause_decides, cube_decides, cubes_are_dual, first_block_has_values, first_cube_is_fine,
+    original_clause_is_fine, reduced_clause_is_fine, reduced_cube_is_fine, resolved_clause_is_fine,
+    resolved_cube_is_fine, resolvent_fits,
 };
-pub use exactness::served_claims_are_exact;
+pub use exactness::{lines_of_play_are_played, served_claims_are_exact};
+pub use texts::text_is_read;

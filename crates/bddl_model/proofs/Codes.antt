@@ -6,19 +6,16 @@ use Rattle.std.proofs.lemmas.Bool.{and_parts, leb-true, false≢true}
 use Rattle.std.proofs.lemmas.Bool.Decides.{nat_tests}
 use Rattle.std.proofs.lemmas.List.{take_at, drop_at, length-take-le, length-drop, take-append-drop}
 use Rattle.std.proofs.lemmas.Option.{slice_get_within}
-use Rattle.bddl_model.specs.declared.formula.Span.{Span}
 use Rattle.bddl_model.specs.declared.game.Side.{Side}
 use Rattle.bddl_model.specs.declared.game.Move.{Move}
-use Rattle.bddl_model.specs.Truth.{Assignment}
-use Rattle.bddl_model.specs.Bits.{bits, number_at}
+use Rattle.bddl_model.specs.Bits.{bits}
 use Rattle.bddl_model.specs.Words.{number_of_bits}
 use Rattle.bddl_model.specs.Game.{Game, Action, actions}
 use Rattle.bddl_model.specs.Board.{Board}
 use Rattle.bddl_model.specs.Fitting.{on_side, on_board, fits}
 use Rattle.bddl_model.specs.Moves.{legal_with, legal}
 use Rattle.bddl_model.specs.Layout.{code_bits}
-use Rattle.bddl_model.specs.Exact.{coded_move}
-use Rattle.bddl_model.specs.Codes.{Shape, shape_of, code_length, IsPlaced, number_bits, code, spelled_move, values_from, fits_action, in_range}
+use Rattle.bddl_model.specs.Codes.{Shape, shape_of, code_length, IsPlaced, number_bits, code, spelled_move, fits_action, in_range}
 use Rattle.bddl_model.proofs.Bits.{bits_enough}
 
 -- ---- numbers in bits
@@ -122,47 +119,12 @@ module _ (s : Shape) (c : List Bool) (l : length c ≡ code_length s) (placed : 
       ap₂ (λ u v. u ++ v) action (ap₂ (λ u v. u ++ v) column row ∙ take-append-drop (bits s.width) anchor)
       ∙ take-append-drop (bits s.actions) c
 
--- ---- the bits that an assignment gives
-
 pub code_length_is : (g : Game) (side : Side) → code_length (shape_of g side) ≡ code_bits g (actions g side)
 code_length_is g side = of (actions g side)
   where
     of : (list : List Action) → code_length (record { actions = length list; width = g.width; height = g.height }) ≡ code_bits g list
     of [] = refl
     of (a ∷ more) = some_actions (record { actions = length (a ∷ more); width = g.width; height = g.height }) (omega arith)
-
-number_valued : (n v : ℕ) (a : Assignment) → number_of_bits (values_from a v n) ≡ number_at a v n
-number_valued zero v a = refl
-number_valued (suc n) v a = ap (λ m. (if a v then 1 else 0) + 2 * m) (number_valued n (suc v) a)
-
-take_values : (n all v : ℕ) (a : Assignment) → n ≤ all → take n (values_from a v all) ≡ values_from a v n
-take_values zero all v a h = refl
-take_values (suc n) zero v a h = absurd (omega arith)
-take_values (suc n) (suc all) v a h = ap (λ l. a v ∷ l) (take_values n all (suc v) a (omega arith))
-
-drop_values : (n m all v : ℕ) (a : Assignment) → all ≡ n + m → drop n (values_from a v all) ≡ values_from a (v + n) m
-drop_values zero m all v a h = let here : v ≡ v + 0 = omega arith in let left : all ≡ m = omega arith in ap₂ (values_from a) here left
-drop_values (suc n) m zero v a h = absurd (omega arith)
-drop_values (suc n) m (suc all) v a h = let same : suc v + n ≡ v + suc n = omega arith in drop_values n m all (suc v) a (omega arith) ∙ ap (λ w. values_from a w m) same
-
--- the values of a span are those of the action's bits, the column's and the row's
-values_apart : (first second third v all : ℕ) (a : Assignment) → all ≡ first + (second + third) →
-    (number_of_bits (take first (values_from a v all)) ≡ number_at a v first)
-    × (number_of_bits (take second (drop first (values_from a v all))) ≡ number_at a (v + first) second)
-    × (number_of_bits (drop second (drop first (values_from a v all))) ≡ number_at a (v + first + second) third)
-values_apart first second third v all a whole =
-    let anchor = drop_values first (second + third) all v a whole in (
-      ap number_of_bits (take_values first all v a (omega arith)) ∙ number_valued first v a,
-      ap (λ l. number_of_bits (take second l)) anchor ∙ ap number_of_bits (take_values second (second + third) (v + first) a (omega arith)) ∙ number_valued second (v + first) a,
-      ap (λ l. number_of_bits (drop second l)) anchor ∙ ap number_of_bits (drop_values second third (second + third) (v + first) a refl) ∙ number_valued third (v + first + second) a,
-    )
-
-pub spelled_is_coded : (g : Game) (side : Side) (a : Assignment) (s : Span) → s.len ≡ code_bits g (actions g side) → 1 ≤ length (actions g side)
-    → spelled_move (shape_of g side) (values_from a s.from s.len) ≡ coded_move g side a s
-spelled_is_coded g side a s l some =
-    let whole = l ∙ sym (code_length_is g side) ∙ some_actions (shape_of g side) some in
-    let parts = values_apart (bits (length (actions g side))) (bits g.width) (bits g.height) s.from s.len a whole in
-    rw (parts.0, parts.1, parts.2) refl
 
 -- ---- moves in range
 

@@ -1,10 +1,10 @@
 -- Variables that are numbered one after the other.
 use Rattle.std.proofs.Common.{◌≡◌, ℕ, zero, suc, ◌+◌, ◌<◌, ◌≤◌, true, false, List, [], ◌∷◌, ◌++◌, ◌⊎◌, inl, inr, ⊎_elim, refl, ap, ◌∙◌, arith, eq-eqb, ne_eqb}
-use Rattle.std.proofs.lemmas.Bool.{le-leb, cases_lt, or_from, or_left, or_right}
+use Rattle.std.proofs.lemmas.Bool.{cases_lt, or_from, or_left, or_right}
 use Rattle.std.proofs.lemmas.List.{map-append}
 use Rattle.bddl_model.specs.declared.formula.Quant.{Quant}
 use Rattle.bddl_model.specs.declared.formula.Bound.{Bound}
-use Rattle.bddl_model.specs.Forms.{has_number, in_range, AllInRange, AllApart, prefix_variables}
+use Rattle.bddl_model.specs.Forms.{has_number, prefix_variables}
 use Rattle.bddl_model.specs.Layout.{bounds}
 
 -- so many numbers from v on
@@ -25,20 +25,10 @@ variables-bounds q v (suc n) = ap (λ l. v ∷ l) (variables-bounds q (suc v) n)
 pub variables-append : (xs ys : List Bound) → prefix_variables (xs ++ ys) ≡ prefix_variables xs ++ prefix_variables ys
 variables-append xs ys = map-append (λ (b : Bound). b.var.0) xs ys
 
-pub counted-in_range : (most v n : ℕ) → 1 ≤ v → v + n ≤ suc most → AllInRange most (counted v n)
-counted-in_range most v zero low high = tt
-counted-in_range most v (suc n) low high =
-    let here : in_range most v ≡ true = rw (le-leb 1 v low, le-leb v most (omega arith)) refl in
-    (here, counted-in_range most (suc v) n (omega arith) (omega arith))
-
 -- a number before them or behind them is not among them
 pub not_counted : (v n w : ℕ) → (w < v) ⊎ (v + n ≤ w) → has_number (counted v n) w ≡ false
 not_counted v zero w out = refl
 not_counted v (suc n) w out = or_from _ _ (ne_eqb v w (λ e. ⊎_elim (λ l. omega arith) (λ g. omega arith) out)) (not_counted (suc v) n w (⊎_elim (λ l. inl (omega arith)) (λ g. inr (omega arith)) out))
-
-pub counted-apart : (v n : ℕ) → AllApart (counted v n)
-counted-apart v zero = tt
-counted-apart v (suc n) = (not_counted (suc v) n v (inl (omega arith)), counted-apart (suc v) n)
 
 pub among_counted : (v n w : ℕ) → v ≤ w → w < v + n → has_number (counted v n) w ≡ true
 among_counted v zero w low high = absurd (omega arith)

@@ -15,9 +15,7 @@ pub mod CircuitForms
 pub mod Growth
 pub mod WireWords
 pub mod WireItems
-pub mod Rectangle
 pub mod Anchors
 pub mod Covering
-pub mod Prenexing
 pub mod Codes
 pub mod Moves

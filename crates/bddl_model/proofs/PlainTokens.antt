@@ -13,7 +13,8 @@ use Rattle.bddl_model.specs.Bytes.{is_white, is_digit, digits_from, digits_value
 use Rattle.bddl_model.specs.FormulaWords.{Word, words_of, problem, cnf, quantifier, number, token_of, plain, negative}
 use Rattle.bddl_model.specs.Forms.{in_range, AllPass, AllInRange, literal_variables}
 use Rattle.bddl_model.specs.Qdimacs.{natural, literal, set_tokens, clause_tokens, text_tokens, bound_variables, IsProper, Says}
-use Rattle.bddl_model.specs.FormulaText.{FormulaText, QuantSet, letter_of, literal_text, set_line, clause_line, text_lines, plain_text}
+use Rattle.bddl_model.specs.FormulaText.{FormulaText, QuantSet, letter_of, literal_text, line_text, head_line, set_line, clause_line, clause_text, greatest_variable, sets_of, written_text, qtext}
+use Rattle.bddl_model.specs.Truth.{Formula}
 use Rattle.bddl_model.proofs.NumberLists.{AllPass-append, ranges_parts}
 use Rattle.bddl_model.proofs.PlainTexts.{NoWhite, IsWord, AllWords, NoComment, IsLine, AllLines, words_read}
 
@@ -30,7 +31,7 @@ pub decimal_digits : (n : ℕ) → n < 2 ^ 64 → AllDigits (decimal n)
 decimal_digits n h = decimal_by_steps (λ n ds. AllDigits ds) (λ n small. (digit_is n small, tt)) (λ n ds big so. AllPass-append is_digit ds ((48 + n % 10) ∷ []) so (digit_is (n % 10) (last_small n), tt)) n h
 
 -- reading goes on behind the digits of n with n
-decimal_value : (n : ℕ) → n < 2 ^ 64 → (rest : List ℕ) → digits_from 0 (decimal n ++ rest) ≡ digits_from n rest
+pub decimal_value : (n : ℕ) → n < 2 ^ 64 → (rest : List ℕ) → digits_from 0 (decimal n ++ rest) ≡ digits_from n rest
 decimal_value n h = decimal_by_steps (λ n ds. (rest : List ℕ) → digits_from 0 (ds ++ rest) ≡ digits_from n rest) one more n h
   where
     one : (n : ℕ) → n < 10 → (rest : List ℕ) → digits_from 0 ((48 + n) ∷ rest) ≡ digits_from n rest
@@ -158,6 +159,26 @@ sets_lines most (s ∷ sets) small h = let r = ranges_parts most s.vars (bound_v
 clauses_lines : (most : ℕ) (cs : List (List Lit)) → most < 1000000000 → AllInRange most (flat_map literal_variables cs) → AllLines (map clause_line cs)
 clauses_lines most [] small h = tt
 clauses_lines most (c ∷ cs) small h = let r = ranges_parts most (literal_variables c) (flat_map literal_variables cs) h in (clause_is_line most c small r.0, clauses_lines most cs small r.1)
+
+-- ---- the whole text
+
+abbrev text_lines : FormulaText → List (List (List ℕ))
+text_lines t = head_line t.variables t.said ∷ map set_line t.sets ++ map clause_line t.clauses
+
+abbrev plain_text : FormulaText → List ℕ
+plain_text t = flat_map line_text (text_lines t)
+
+flat_of_lines : {A : Type 0} (line : A → List (List ℕ)) (xs : List A) → flat_map line_text (map line xs) ≡ flat_map (λ x. line_text (line x)) xs
+flat_of_lines line [] = refl
+flat_of_lines line (x ∷ xs) = ap (λ t. line_text (line x) ++ t) (flat_of_lines line xs)
+
+pub qtext_is_plain : (f : Formula) → qtext f ≡ plain_text (written_text f)
+qtext_is_plain f =
+    append_assoc (line_text (head_line (greatest_variable f.prefix) (length f.clauses))) (flat_map (λ s. line_text (set_line s)) (sets_of f.prefix)) (flat_map clause_text f.clauses)
+    ∙ ap (λ t. line_text (head_line (greatest_variable f.prefix) (length f.clauses)) ++ t) lines
+  where
+    lines : flat_map (λ s. line_text (set_line s)) (sets_of f.prefix) ++ flat_map clause_text f.clauses ≡ flat_map line_text (map set_line (sets_of f.prefix) ++ map clause_line f.clauses)
+    lines = sym (flat_map-append line_text (map set_line (sets_of f.prefix)) (map clause_line f.clauses) ∙ rw (flat_of_lines set_line (sets_of f.prefix), flat_of_lines clause_line f.clauses) refl)
 
 -- a proper text is read back from its plain text
 pub plain_says : (t : FormulaText) → IsProper t → t.said < 1000000000 → Says (plain_text t) t

@@ -1,5 +1,6 @@
 -- A form is read back from its text.
-use Rattle.std.proofs.Common.{◌≡◌, ℕ, ◌<◌, ◌≤◌, Bool, true, false, ◌&&◌, not, nat_eq, nat_le, max, List, [], ◌∷◌, ◌++◌, length, map, refl, sym, ap, subst, ◌∙◌, inl, inr, arith, append_assoc, if◌then◌else◌}
+use Rattle.std.proofs.Common.{◌≡◌, ℕ, ◌<◌, ◌≤◌, Bool, true, false, ◌&&◌, not, nat_eq, nat_le, max, List, [], ◌∷◌, ◌++◌, length, map, refl, sym, ap, subst, ◌∙◌, inl, inr, arith, append_assoc}
+use Rattle.std.specs.Bool.{beq}
 use Rattle.std.specs.List.{flat_map, filter, range_with_len}
 use Rattle.std.proofs.lemmas.Bool.{cases_Bool, and_parts, and_from, le-leb, leb-true, or_parts, or_from, false_from_ne_true, eqb-true, eq-eqb}
 use Rattle.std.proofs.lemmas.List.{append-nil, map-append}
@@ -8,11 +9,11 @@ use Rattle.bddl_model.specs.declared.formula.Quant.TheVariants.{Exists, All}
 use Rattle.bddl_model.specs.declared.formula.Bound.{Bound}
 use Rattle.bddl_model.specs.declared.formula.Lit.{Lit}
 use Rattle.bddl_model.specs.Truth.{Formula, negation}
-use Rattle.bddl_model.specs.Forms.{has_number, in_range, AllInRange, AllApart, AllAmong, prefix_variables, literal_variables, AllFitPrefix, IsForm, greatest_variables}
-use Rattle.bddl_model.specs.Qdimacs.{bound_variables, IsProper, same_literal, has_literal, with_new_literals, has_opposites, kept_clauses, bound_of, set_bounds, free_variables, form_of, Qdimacs}
+use Rattle.bddl_model.specs.Forms.{has_number, in_range, AllInRange, AllApart, AllAmong, prefix_variables, literal_variables, AllFitPrefix, IsForm, greatest_variables, same_literal, has_literal}
+use Rattle.bddl_model.specs.Qdimacs.{bound_variables, IsProper, Says, with_new_literals, has_opposites, kept_clauses, bound_of, set_bounds, free_variables, form_of, Qdimacs}
 use Rattle.bddl_model.specs.FormulaText.{QuantSet, same_quant, onto_sets, sets_of, greatest_variable, written_text, qtext}
 use Rattle.bddl_model.proofs.NumberLists.{AllPass-append, one_passes, all_pass_other, has_append}
-use Rattle.bddl_model.proofs.PlainTokens.{in_range_is, plain_says}
+use Rattle.bddl_model.proofs.PlainTokens.{in_range_is, plain_says, qtext_is_plain}
 
 -- ---- the prefix
 
@@ -73,7 +74,7 @@ literal_var [] l m e h = refl
 literal_var (x ∷ ls) l m e h =
     let parts = or_parts (nat_eq x.var.0 m.var.0) (has_number (literal_variables ls) m.var.0) h in
     or_from (same_literal l x) (has_literal ls l) (false_from_ne_true (same_literal l x) (λ s.
-    let p = and_parts (nat_eq l.var.0 x.var.0) (if l.negated then x.negated else not x.negated) s in
+    let p = and_parts (nat_eq l.var.0 x.var.0) (beq l.negated x.negated) s in
     let q = eqb-true l.var.0 x.var.0 p.0 in
     let r : nat_eq x.var.0 m.var.0 ≡ true = eq-eqb x.var.0 m.var.0 (sym q ∙ e) in
     absurd (let z = sym r ∙ parts.0 in cc))) (literal_var ls l m e parts.1)
@@ -86,7 +87,7 @@ apart_middle : (done ls : List Lit) (l : Lit) → AllApart (literal_variables (d
 apart_middle [] ls l h = refl
 apart_middle (d ∷ done) ls l h =
     or_from (same_literal l d) (has_literal done l) (false_from_ne_true (same_literal l d) (λ s.
-    let p = and_parts (nat_eq l.var.0 d.var.0) (if l.negated then d.negated else not d.negated) s in
+    let p = and_parts (nat_eq l.var.0 d.var.0) (beq l.negated d.negated) s in
     let q = eqb-true l.var.0 d.var.0 p.0 in
     let parts = sym (ap (λ (x : List ℕ). has_number x d.var.0) (map-append (λ (m : Lit). m.var.0) done (l ∷ ls)) ∙ has_append (literal_variables done) (literal_variables (l ∷ ls)) d.var.0) ∙ h.0 in
     let later = (or_parts (has_number (literal_variables done) d.var.0) (has_number (literal_variables (l ∷ ls)) d.var.0) parts).1 in
@@ -131,7 +132,7 @@ written_form f form = rw (free, sets_bounds f.prefix, all_kept f.prefix f.clause
 pub text_is_read : (f : Formula) → IsForm f → length f.clauses < 1000000000 → Qdimacs (qtext f) (greatest_variable f.prefix) (length f.clauses) f
 text_is_read f form few = (
   written_text f,
-  plain_says (written_text f) (written_is_proper f form) few,
+  subst (λ bytes. Says bytes (written_text f)) (sym (qtext_is_plain f)) (plain_says (written_text f) (written_is_proper f form) few),
   refl,
   refl,
   refl,

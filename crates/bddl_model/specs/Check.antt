@@ -20,7 +20,8 @@ use Rattle.bddl_model.specs.declared.check.Part.TheVariants as part
 use Rattle.bddl_model.specs.declared.check.CheckFault.{CheckFault}
 use Rattle.bddl_model.specs.declared.check.CheckFault.TheVariants as fault
 use Rattle.bddl_model.specs.Fitting.{on_side, fits}
-use Rattle.bddl_model.specs.Setup.{Setup, setup_of, line_of}
+use Rattle.bddl_model.specs.Game.{action_atoms, greatest_side, line_atoms}
+use Rattle.bddl_model.specs.Setup.{Setup, action_of, line_of, setup_of}
 
 -- ---- checks one after the other
 
@@ -36,7 +37,7 @@ fault_if false f = None
 -- ---- sizes
 
 abbrev pub size_fault : Axis → ℕ → Option CheckFault
-size_fault axis n = fault_if (not (on_side 16 n)) (fault.SizeOutOfRange axis n)
+size_fault axis n = fault_if (not (on_side greatest_side n)) (fault.SizeOutOfRange axis n)
 
 abbrev pub depth_fault : ℕ → Option CheckFault
 depth_fault n = fault_if (nat_lt 31 n) (fault.DepthOutOfRange n)
@@ -59,8 +60,8 @@ atoms_fault i width height atoms = first_of (flat_map (λ a. term_fault i width 
 abbrev pub fits_somewhere : ℕ → ℕ → List Atom → Bool
 fits_somewhere width height atoms = list_any (λ y. list_any (λ x. fits width height atoms x y) (range_with_len 1 width)) (range_with_len 1 height)
 
-abbrev pub never_fault : Item → ℕ → ℕ → List AtomText → Option CheckFault
-never_fault i width height atoms = fault_if (not (fits_somewhere width height (line_of width height atoms))) (fault.NeverOnBoard i)
+abbrev pub never_fault : Item → ℕ → ℕ → List Atom → Option CheckFault
+never_fault i width height atoms = fault_if (not (fits_somewhere width height atoms)) (fault.NeverOnBoard i)
 
 -- ---- actions
 
@@ -83,7 +84,7 @@ action_fault width height side earlier a =
     ∷ same_name i (named_at 1 earlier a.name)
     ∷ atoms_fault i width height a.before
     ∷ atoms_fault i width height a.effects
-    ∷ never_fault i width height (a.before ++ a.effects)
+    ∷ never_fault i width height (action_atoms (action_of width height a))
     ∷ [])
 
 abbrev pub each_action : ℕ → ℕ → Side → List ActionText → List ActionText → List (Option CheckFault)
@@ -120,7 +121,7 @@ cells_fault width height cells = first_of (each_cell width height [] cells)
 abbrev pub line_fault : ℕ → ℕ → Side → ℕ → List AtomText → Option CheckFault
 line_fault width height side number atoms =
     let i = item.Line side number in
-    first_of (length_fault i part.Line 16 atoms ∷ atoms_fault i width height atoms ∷ never_fault i width height atoms ∷ [])
+    first_of (length_fault i part.Line 16 atoms ∷ atoms_fault i width height atoms ∷ never_fault i width height (line_atoms (line_of width height atoms)) ∷ [])
 
 -- the lines from this number on
 abbrev pub each_line : ℕ → ℕ → Side → ℕ → List (List AtomText) → List (Option CheckFault)

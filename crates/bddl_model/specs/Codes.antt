@@ -2,10 +2,9 @@
 use Rattle.std.specs.Prelude.{ℕ, zero, suc, ◌+◌, ◌-◌, ◌/◌, ◌%◌, ◌<◌, ◌≤◌, Bool, false, ◌==◌, List, [], ◌∷◌, ◌++◌, length, take, drop, Option, None, Some, slice_get, if◌then◌else◌}
 use Rattle.bddl_model.specs.declared.game.Side.{Side}
 use Rattle.bddl_model.specs.declared.game.Move.{Move}
-use Rattle.bddl_model.specs.Truth.{Assignment}
 use Rattle.bddl_model.specs.Bits.{bits}
 use Rattle.bddl_model.specs.Words.{number_of_bits}
-use Rattle.bddl_model.specs.Game.{Game, Action, actions}
+use Rattle.bddl_model.specs.Game.{Game, Action, action_atoms, actions}
 use Rattle.bddl_model.specs.Fitting.{fits}
 
 -- what a side's codes depend on
@@ -47,15 +46,10 @@ spelled_move s c = let anchor = drop (bits s.actions) c in record {
   y = number_of_bits (drop (bits s.width) anchor) + 1;
 }
 
--- the values of so many variables from v on
-abbrev pub values_from : Assignment → ℕ → ℕ → List Bool
-values_from a v zero = []
-values_from a v (suc n) = a v ∷ values_from a (suc v) n
-
 -- the anchor fits the action, if there is one
 abbrev pub fits_action : Game → Option Action → ℕ → ℕ → Bool
 fits_action g None x y = false
-fits_action g (Some a) x y = fits g.width g.height (a.before ++ a.effects) x y
+fits_action g (Some a) x y = fits g.width g.height (action_atoms a) x y
 
 -- the side has the move's action, and its anchor fits
 abbrev pub in_range : Game → Side → Move → Bool

@@ -1,5 +1,5 @@
 -- What an assignment says by the inputs of the encoding: moves, a claim, an attack on it, a refuting number and a place.
-use Rattle.std.specs.Prelude.{ℕ, zero, suc, ◌≡◌, ◌≤◌, ◌+◌, Bool, true, ◌&&◌, List, [], ◌∷◌, ◌++◌, length, map, Option, None, Some, slice_get, if◌then◌else◌}
+use Rattle.std.specs.Prelude.{ℕ, suc, ◌≡◌, ◌≤◌, ◌+◌, Bool, true, ◌&&◌, List, [], ◌∷◌, ◌++◌, length, map, Option, None, Some, slice_get, if◌then◌else◌}
 use Rattle.bddl_model.specs.declared.circuit.Wire.{Wire}
 use Rattle.bddl_model.specs.declared.formula.Quant.TheVariants.{Exists}
 use Rattle.bddl_model.specs.declared.formula.Span.{Span}
@@ -13,7 +13,7 @@ use Rattle.bddl_model.specs.declared.game.PlyBits.{PlyBits}
 use Rattle.bddl_model.specs.Truth.{Assignment, Formula}
 use Rattle.bddl_model.specs.Circuit.{Circuit, circuit_clauses}
 use Rattle.bddl_model.specs.Bits.{bits, number_at}
-use Rattle.bddl_model.specs.Game.{Game, Action, actions, lines, opponent}
+use Rattle.bddl_model.specs.Game.{Game, Action, action_atoms, actions, line_atoms, lines, opponent, side_after}
 use Rattle.bddl_model.specs.Board.{Board, mark_at}
 use Rattle.bddl_model.specs.Fitting.{led, on_side, fits}
 use Rattle.bddl_model.specs.Moves.{legal, after}
@@ -34,7 +34,7 @@ fitting_tests g item atoms anchor = if fits g.width g.height item anchor.x ancho
 
 abbrev pub action_tests : Game → Option Action → Cell → Option (List Test)
 action_tests g None anchor = None
-action_tests g (Some a) anchor = fitting_tests g (a.before ++ a.effects) a.before anchor
+action_tests g (Some a) anchor = fitting_tests g (action_atoms a) a.before anchor
 
 -- the preconditions of a move, where the side has its action and the anchor fits
 abbrev pub move_tests : Game → Side → Move → Option (List Test)
@@ -42,7 +42,7 @@ move_tests g side m = action_tests g (slice_get (actions g side) m.action) (reco
 
 abbrev pub atoms_tests : Game → Option (List Atom) → Cell → Option (List Test)
 atoms_tests g None anchor = None
-atoms_tests g (Some line) anchor = fitting_tests g line line anchor
+atoms_tests g (Some line) anchor = fitting_tests g (line_atoms line) line anchor
 
 -- the atoms of the side's line of this number, where there is one and the anchor fits
 abbrev pub line_tests : Game → Side → ℕ → Cell → Option (List Test)
@@ -67,14 +67,9 @@ cell_in g a s = record {
 abbrev pub layout_of : Setup → Inputs
 layout_of s = layout s.game s.first s.depth
 
--- the side that moves after so many plies
-abbrev pub side_of : Side → ℕ → Side
-side_of side zero = side
-side_of side (suc k) = side_of (opponent side) k
-
 -- the bits of the ply after so many
 abbrev pub ply_bits : Setup → ℕ → PlyBits
-ply_bits s k = ply_at (sizes_of s.game s.depth) (side_of s.first k) (ply_from s k)
+ply_bits s k = ply_at (sizes_of s.game s.depth) (side_after s.first k) (ply_from s k)
 
 -- the tests of the move that a span names
 abbrev pub code_tests : Setup → Assignment → Side → Span → Option (List Test)
@@ -82,9 +77,9 @@ code_tests s a side code = move_tests s.game side (coded_move s.game side a code
 
 abbrev pub ply_read : Setup → Assignment → ℕ → Ply
 ply_read s a k = let p = ply_bits s k in record {
-  side = side_of s.first k;
-  own = code_tests s a (side_of s.first k) (own_code p);
-  code = code_tests s a (side_of s.first k) p.code;
+  side = side_after s.first k;
+  own = code_tests s a (side_after s.first k) (own_code p);
+  code = code_tests s a (side_after s.first k) p.code;
 }
 
 abbrev pub claim_read : Setup → Assignment → Claim
@@ -125,8 +120,8 @@ pub record MeetsConditions (s : Setup) (out : Assignment → Bool) : Type 0 wher
   pub tells : (a : Assignment) → out a ≡ conditions s.depth (ply_read s a) (marks a) (claim_read s a) (attack_read s a) (refuting_read s a) (place_read s a)
 
 -- the clauses of a circuit, under the inputs' prefix and its own variables
-abbrev pub form_of : Setup → Circuit → Wire → Formula
-form_of s c out = record {
+abbrev pub circuit_form : Setup → Circuit → Wire → Formula
+circuit_form s c out = record {
   prefix = prefix_of (blocks (layout_of s)) ++ bounds Exists (suc c.inputs) (suc (length c.gates));
   clauses = circuit_clauses c out;
 }

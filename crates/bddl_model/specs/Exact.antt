@@ -9,7 +9,7 @@ use Rattle.bddl_model.specs.declared.game.Move.{Move}
 use Rattle.bddl_model.specs.declared.game.PlyBits.{PlyBits}
 use Rattle.bddl_model.specs.Truth.{Assignment, Formula, value, clauses_true}
 use Rattle.bddl_model.specs.Bits.{bits, number_at}
-use Rattle.bddl_model.specs.Game.{Game, actions, opponent}
+use Rattle.bddl_model.specs.Game.{Game, actions, opponent, side_after}
 use Rattle.bddl_model.specs.Board.{Board}
 use Rattle.bddl_model.specs.Moves.{legal, after}
 use Rattle.bddl_model.specs.Goal.{goal}
@@ -37,11 +37,7 @@ own_code p = elim p.side [ Black ↦ p.code | White ↦ p.sample ]
 
 -- ---- positions
 
--- so many plies from the start
-abbrev pub side_after : Side → List Move → Side
-side_after side [] = side
-side_after side (m ∷ ms) = side_after (opponent side) ms
-
+-- the board after these moves
 abbrev pub board_after : Game → Side → Board → List Move → Board
 board_after g side b [] = b
 board_after g side b (m ∷ ms) = board_after g (opponent side) (after g b side m) ms
@@ -56,7 +52,19 @@ Plays g depth a side b v (m ∷ ms) =
     × (legal g b side m ≡ true) × (coded_move g side a p.code ≡ m)
     × Plays g depth a (opponent side) (after g b side m) (end p.code) ms
 
+-- legal moves, sides in turn, of which no one is made where a goal stands
+abbrev pub MayPlay : Game → Side → Board → List Move → Type 0
+MayPlay g side b [] = Unit {0}
+MayPlay g side b (m ∷ ms) =
+    (goal g b Black ≡ false) × (goal g b White ≡ false)
+    × (legal g b side m ≡ true)
+    × MayPlay g (opponent side) (after g b side m) ms
+
 -- ---- exactness
+
+-- these moves may be played from the start
+abbrev pub MayPlayFrom : Setup → List Move → Type 0
+MayPlayFrom s ms = (length ms ≤ s.depth) × MayPlay s.game s.first s.board ms
 
 -- the assignment plays these moves from the start
 abbrev pub PlaysFrom : Setup → Assignment → List Move → Type 0
@@ -72,7 +80,7 @@ value_from prefix matrix v a = value (drop (v - 1) prefix) matrix a
 
 -- After the moves, the side to move, the board, the plies left, and the bits of the next ply.
 abbrev pub to_move : Setup → List Move → Side
-to_move s ms = side_after s.first ms
+to_move s ms = side_after s.first (length ms)
 
 abbrev pub position : Setup → List Move → Board
 position s ms = board_after s.game s.first s.board ms

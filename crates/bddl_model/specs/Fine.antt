@@ -1,11 +1,11 @@
 -- Fine clauses and cubes: what a solver may keep beside a form without changing its value.
-use Rattle.std.specs.Prelude.{◌≡◌, ℕ, zero, suc, ◌≤◌, max, Bool, true, false, ◌&&◌, List, [], ◌∷◌, take, drop, filter, if◌then◌else◌}
+use Rattle.std.specs.Prelude.{◌≡◌, ℕ, zero, suc, ◌≤◌, max, Bool, true, false, ◌&&◌, List, [], ◌∷◌, length, take, drop, filter, if◌then◌else◌}
 use Rattle.std.specs.List.{list_all}
 use Rattle.bddl_model.specs.declared.formula.Quant.{Quant}
 use Rattle.bddl_model.specs.declared.formula.Quant.TheVariants.{Exists, All}
 use Rattle.bddl_model.specs.declared.formula.Bound.{Bound}
 use Rattle.bddl_model.specs.declared.formula.Lit.{Lit}
-use Rattle.bddl_model.specs.Truth.{Assignment, Formula, value, literal_true, clause_true, clauses_true}
+use Rattle.bddl_model.specs.Truth.{Assignment, Formula, assign, value, literal_true, clause_true, clauses_true}
 use Rattle.bddl_model.specs.Forms.{has_number, prefix_variables, literal_variables, FitsPrefix}
 use Rattle.bddl_model.specs.FormulaText.{same_quant}
 
@@ -19,6 +19,16 @@ cube_true a k = list_all (literal_true a) k
 abbrev pub first_block : Quant → List Bound → ℕ
 first_block q [] = 0
 first_block q (b ∷ rest) = if same_quant b.quant q then suc (first_block q rest) else 0
+
+-- the assignment with these values of the first variables of a prefix, in its order
+abbrev pub with_first : List Bound → List Bool → Assignment → Assignment
+with_first [] values a = a
+with_first (b ∷ rest) [] a = a
+with_first (b ∷ rest) (v ∷ values) a = with_first rest values (assign b.var.0 v a)
+
+-- the value behind the first variables, which have these values
+abbrev pub value_under : List Bound → (Assignment → Bool) → List Bool → Assignment → Bool
+value_under prefix matrix values a = value (drop (length values) prefix) matrix (with_first prefix values a)
 
 -- the number of variables up to the last one here or further in, where there is one
 abbrev pub up_to : ℕ → Bool → ℕ
@@ -37,32 +47,35 @@ among_first k prefix ls = filter (λ l. has_number (prefix_variables (take k pre
 
 -- ---- clauses
 
-abbrev pub clause_depth : List Bound → List Lit → ℕ
-clause_depth prefix c = max (first_block All prefix) (last_named Exists prefix c)
+-- The first so many variables are kept: reduction drops no literal of theirs. A solver keeps a first block that is not the
+-- constraint's own, of which it then tells the values; a log of steps keeps none.
+abbrev pub clause_depth : ℕ → List Bound → List Lit → ℕ
+clause_depth kept prefix c = max kept (last_named Exists prefix c)
 
--- No values of the first variables make each of the clause's literals among them false, while the value of the test is true from the universal first block on.
-pub record IsFineClause (prefix : List Bound) (matrix : Assignment → Bool) (c : List Lit) : Type 0 where
+-- No values of the first variables make each of the clause's literals among them false, while the value of the test is true behind those that are kept and from there on.
+pub record IsFineClause (kept : ℕ) (prefix : List Bound) (matrix : Assignment → Bool) (c : List Lit) : Type 0 where
   pub fits : FitsPrefix prefix c
   pub unbroken : (a : Assignment)
-      → ((j : ℕ) → first_block All prefix ≤ j → j ≤ clause_depth prefix c → value (drop j prefix) matrix a ≡ true)
-      → clause_true a (among_first (clause_depth prefix c) prefix c) ≡ false → ⊥
+      → ((j : ℕ) → kept ≤ j → j ≤ clause_depth kept prefix c → value (drop j prefix) matrix a ≡ true)
+      → clause_true a (among_first (clause_depth kept prefix c) prefix c) ≡ false → ⊥
 
 -- ---- cubes
 
-abbrev pub cube_depth : List Bound → List Lit → ℕ
-cube_depth prefix k = max (first_block Exists prefix) (last_named All prefix k)
+abbrev pub cube_depth : ℕ → List Bound → List Lit → ℕ
+cube_depth kept prefix k = max kept (last_named All prefix k)
 
--- No values of the first variables make each of the cube's literals among them true, while the value of the test is false from the existential first block on.
-pub record IsFineCube (prefix : List Bound) (matrix : Assignment → Bool) (k : List Lit) : Type 0 where
+-- No values of the first variables make each of the cube's literals among them true, while the value of the test is false behind those that are kept and from there on.
+pub record IsFineCube (kept : ℕ) (prefix : List Bound) (matrix : Assignment → Bool) (k : List Lit) : Type 0 where
   pub fits : FitsPrefix prefix k
   pub unbroken : (a : Assignment)
-      → ((j : ℕ) → first_block Exists prefix ≤ j → j ≤ cube_depth prefix k → value (drop j prefix) matrix a ≡ false)
-      → cube_true a (among_first (cube_depth prefix k) prefix k) ≡ true → ⊥
+      → ((j : ℕ) → kept ≤ j → j ≤ cube_depth kept prefix k → value (drop j prefix) matrix a ≡ false)
+      → cube_true a (among_first (cube_depth kept prefix k) prefix k) ≡ true → ⊥
 
 -- ---- of a form
 
-abbrev pub FineClauseOf : Formula → List Lit → Type 0
-FineClauseOf f c = IsFineClause f.prefix (clauses_true f.clauses) c
+-- where so many variables are kept
+abbrev pub FineClauseOf : ℕ → Formula → List Lit → Type 0
+FineClauseOf kept f c = IsFineClause kept f.prefix (clauses_true f.clauses) c
 
-abbrev pub FineCubeOf : Formula → List Lit → Type 0
-FineCubeOf f k = IsFineCube f.prefix (clauses_true f.clauses) k
+abbrev pub FineCubeOf : ℕ → Formula → List Lit → Type 0
+FineCubeOf kept f k = IsFineCube kept f.prefix (clauses_true f.clauses) k

@@ -1,5 +1,7 @@
 -- What a formula keeps to that is written, read and decided: its variables are bound once, and a clause names each once.
 use Rattle.std.specs.Prelude.{ℕ, ◌≡◌, Bool, true, false, ◌||◌, ◌&&◌, ◌==◌, nat_le, List, [], ◌∷◌, map}
+use Rattle.std.specs.Bool.{beq}
+use Rattle.std.specs.List.{list_any}
 use Rattle.bddl_model.specs.declared.formula.Bound.{Bound}
 use Rattle.bddl_model.specs.declared.formula.Lit.{Lit}
 use Rattle.bddl_model.specs.Truth.{Formula}
@@ -35,6 +37,13 @@ prefix_variables bounds = map (λ b. b.var.0) bounds
 
 abbrev pub literal_variables : List Lit → List ℕ
 literal_variables ls = map (λ l. l.var.0) ls
+
+-- the same variable, with the same sign
+abbrev pub same_literal : Lit → Lit → Bool
+same_literal l m = l.var.0 == m.var.0 && beq l.negated m.negated
+
+abbrev pub has_literal : List Lit → Lit → Bool
+has_literal ls l = list_any (same_literal l) ls
 
 -- the clause's variables are bound, and none stands twice
 abbrev pub FitsPrefix : List Bound → List Lit → Type 0

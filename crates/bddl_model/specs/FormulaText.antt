@@ -46,13 +46,6 @@ set_line s = letter_of s.quant ∷ map decimal s.vars ++ codes "0" ∷ []
 abbrev pub clause_line : List Lit → List (List ℕ)
 clause_line ls = map literal_text ls ++ codes "0" ∷ []
 
-abbrev pub text_lines : FormulaText → List (List (List ℕ))
-text_lines t = head_line t.variables t.said ∷ map set_line t.sets ++ map clause_line t.clauses
-
--- one set or clause a line, and no comment
-abbrev pub plain_text : FormulaText → List ℕ
-plain_text t = flat_map line_text (text_lines t)
-
 -- ---- a formula as a text
 
 abbrev pub same_quant : Quant → Quant → Bool
@@ -76,8 +69,17 @@ abbrev pub greatest_variable : List Bound → ℕ
 greatest_variable [] = 0
 greatest_variable (b ∷ bs) = max b.var.0 (greatest_variable bs)
 
+-- the problem line and a line for each block, before so many clauses
+abbrev pub head_text : List Bound → ℕ → List ℕ
+head_text prefix clauses = line_text (head_line (greatest_variable prefix) clauses) ++ flat_map (λ s. line_text (set_line s)) (sets_of prefix)
+
+abbrev pub clause_text : List Lit → List ℕ
+clause_text ls = line_text (clause_line ls)
+
+-- one set or clause a line, and no comment
+abbrev pub qtext : Formula → List ℕ
+qtext f = head_text f.prefix (length f.clauses) ++ flat_map clause_text f.clauses
+
+-- what it says
 abbrev pub written_text : Formula → FormulaText
 written_text f = record { variables = greatest_variable f.prefix; said = length f.clauses; sets = sets_of f.prefix; clauses = f.clauses }
-
-abbrev pub qtext : Formula → List ℕ
-qtext f = plain_text (written_text f)

@@ -1,9 +1,14 @@
 -- A game on a grid, as both sides' actions and goal lines.
-use Rattle.std.specs.Prelude.{ℕ, List, [], ◌∷◌, ◌++◌}
+use Rattle.std.specs.Prelude.{ℕ, zero, suc, List, [], ◌∷◌, ◌++◌}
 use Rattle.std.specs.List.{slice_index_or}
 use Rattle.bddl_model.specs.declared.game.Side.{Side}
 use Rattle.bddl_model.specs.declared.game.Side.TheVariants.{Black, White}
 use Rattle.bddl_model.specs.declared.game.Atom.{Atom}
+use Rattle.bddl_model.specs.declared.game.TheConstants.{GREATEST_SIDE}
+
+-- the most columns and the most rows of a board
+abbrev pub greatest_side : ℕ
+greatest_side = GREATEST_SIDE
 
 -- what must hold before an action, and what it writes, in order
 pub record Action : Type 0 where
@@ -30,6 +35,18 @@ lines g White = g.white_lines
 abbrev pub opponent : Side → Side
 opponent Black = White
 opponent White = Black
+
+-- the side that moves after so many plies
+abbrev pub side_after : Side → ℕ → Side
+side_after side zero = side
+side_after side (suc k) = side_after (opponent side) k
+
+-- the atoms whose cells have to be on the board
+abbrev pub action_atoms : Action → List Atom
+action_atoms a = a.before ++ a.effects
+
+abbrev pub line_atoms : List Atom → List Atom
+line_atoms line = line
 
 -- an action and a line of a side, by their numbers from 0 on
 abbrev pub action_at : Game → Side → ℕ → Action

@@ -3,13 +3,13 @@ use Rattle.std.specs.Prelude.{ℕ, Bool, ◌&&◌, List}
 use Rattle.std.specs.List.{list_any, list_all, range_with_len}
 use Rattle.bddl_model.specs.declared.game.Side.{Side}
 use Rattle.bddl_model.specs.declared.game.Atom.{Atom}
-use Rattle.bddl_model.specs.Game.{Game, lines}
+use Rattle.bddl_model.specs.Game.{Game, line_atoms, lines}
 use Rattle.bddl_model.specs.Board.{Board}
 use Rattle.bddl_model.specs.Fitting.{fits, has_mark}
 
 -- the anchor fits, and every atom's cell has its mark
 abbrev pub holds_from : Game → Board → List Atom → ℕ → ℕ → Bool
-holds_from g board line x y = fits g.width g.height line x y && list_all (has_mark g.width board x y) line
+holds_from g board line x y = fits g.width g.height (line_atoms line) x y && list_all (has_mark g.width board x y) line
 
 -- it does so from some anchor
 abbrev pub line_holds : Game → Board → List Atom → Bool

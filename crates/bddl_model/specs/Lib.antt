@@ -41,6 +41,8 @@ pub mod Conditions
 pub mod Exact
 pub mod Encoding
 pub mod Canonical
+pub mod Encodes
 pub mod Notes
 pub mod Request
+pub mod About
 pub mod Outcome

@@ -1,13 +1,13 @@
 -- What a game keeps to: its sizes, and that each action and each line fits somewhere.
-use Rattle.std.specs.Prelude.{ℕ, ◌≡◌, ◌*◌, ◌≤◌, All, List, ◌++◌, length}
+use Rattle.std.specs.Prelude.{ℕ, ◌≡◌, ◌*◌, ◌≤◌, All, List, length}
 use Rattle.bddl_model.specs.declared.game.Atom.{Atom}
 use Rattle.bddl_model.specs.declared.game.Rect.{Rect}
-use Rattle.bddl_model.specs.Game.{Game, Action}
+use Rattle.bddl_model.specs.Game.{Game, Action, action_atoms, greatest_side, line_atoms}
 use Rattle.bddl_model.specs.Board.{SizedBoard}
 use Rattle.bddl_model.specs.Rectangle.{IsRectOf}
 
 abbrev pub IsSide : ℕ → Type 0
-IsSide n = (1 ≤ n) × (n ≤ 16)
+IsSide n = (1 ≤ n) × (n ≤ greatest_side)
 
 -- some anchor fits
 abbrev pub FitsSomewhere : ℕ → ℕ → List Atom → Type 0
@@ -17,11 +17,11 @@ pub record IsAction (width height : ℕ) (a : Action) : Type 0 where
   pub name : (1 ≤ length a.name) × (length a.name ≤ 32)
   pub before : length a.before ≤ 8
   pub effects : length a.effects ≤ 4
-  pub fits : FitsSomewhere width height (a.before ++ a.effects)
+  pub fits : FitsSomewhere width height (action_atoms a)
 
 pub record IsLine (width height : ℕ) (line : List Atom) : Type 0 where
   pub atoms : length line ≤ 16
-  pub fits : FitsSomewhere width height line
+  pub fits : FitsSomewhere width height (line_atoms line)
 
 -- the actions and the lines of one side
 pub record AreItems (width height : ℕ) (actions : List Action) (lines : List (List Atom)) : Type 0 where

@@ -1,16 +1,16 @@
 -- Which moves are legal, and the board after them.
-use Rattle.std.specs.Prelude.{ℕ, Bool, false, ◌&&◌, List, [], ◌∷◌, ◌++◌, length, map, filter, flat_map, Option, None, Some, slice_get}
+use Rattle.std.specs.Prelude.{ℕ, Bool, false, ◌&&◌, List, [], ◌∷◌, length, map, filter, flat_map, Option, None, Some, slice_get}
 use Rattle.std.specs.List.{list_all, range_with_len}
 use Rattle.bddl_model.specs.declared.game.Side.{Side}
 use Rattle.bddl_model.specs.declared.game.Atom.{Atom}
 use Rattle.bddl_model.specs.declared.game.Move.{Move}
-use Rattle.bddl_model.specs.Game.{Game, Action, actions}
+use Rattle.bddl_model.specs.Game.{Game, Action, action_atoms, actions}
 use Rattle.bddl_model.specs.Board.{Board, with_mark}
 use Rattle.bddl_model.specs.Fitting.{led, fits, has_mark}
 
 -- the anchor fits all atoms of the action, and each precondition holds
 abbrev pub may_act : Game → Board → Action → ℕ → ℕ → Bool
-may_act g board a x y = fits g.width g.height (a.before ++ a.effects) x y && list_all (has_mark g.width board x y) a.before
+may_act g board a x y = fits g.width g.height (action_atoms a) x y && list_all (has_mark g.width board x y) a.before
 
 abbrev pub legal_with : Game → Board → Option Action → ℕ → ℕ → Bool
 legal_with g board None x y = false

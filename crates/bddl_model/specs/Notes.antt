@@ -16,6 +16,7 @@ use Rattle.bddl_model.specs.declared.check.Part.{Part}
 use Rattle.bddl_model.specs.declared.check.Part.TheVariants as part
 use Rattle.bddl_model.specs.declared.check.CheckFault.{CheckFault}
 use Rattle.bddl_model.specs.declared.check.CheckFault.TheVariants as check
+use Rattle.bddl_model.specs.Game.{greatest_side}
 use Rattle.bddl_model.specs.Reading.{place_at}
 
 abbrev pub no_such_request : List ℕ
@@ -93,7 +94,7 @@ limit_words part.Line = codes "atoms are over 16"
 
 -- what is wrong; want of memory is no fault of a game
 abbrev pub check_words : CheckFault → List ℕ
-check_words (check.SizeOutOfRange axis said) = axis_name axis ++ (codes " " ++ (decimal said ++ codes " is not 1 to 16"))
+check_words (check.SizeOutOfRange axis said) = axis_name axis ++ (codes " " ++ (decimal said ++ (codes " is not 1 to " ++ decimal greatest_side)))
 check_words (check.DepthOutOfRange said) = codes "depth " ++ (decimal said ++ codes " is over 31")
 check_words (check.TooManyActions side found) = side_name side ++ (codes " actions: " ++ (decimal found ++ codes " are over 8"))
 check_words (check.TooManyAtoms i p found) = item_text i ++ (codes ": " ++ (decimal found ++ (codes " " ++ limit_words p)))

@@ -1,27 +1,27 @@
--- What a command line comes to, by the files that are held.
-use Rattle.std.specs.Prelude.{ℕ, ◌≡◌, ◌+◌, ◌<◌, ◌≤◌, ◌⊎◌, List, [], ◌++◌, length, Bool, IsTrue, Option, None, Some, Result, Ok, Err}
+-- What a command line comes to, by the files that are held. Each step goes on with what it found, or tells why it can't.
+use Rattle.std.specs.Prelude.{ℕ, ◌≡◌, ◌+◌, ◌<◌, ◌≤◌, ◌⊎◌, List, [], ◌∷◌, length, map, Bool, IsTrue, Option, None, Some, Result, Ok, Err}
 use Rattle.std.specs.FinMap.{get}
-use Rattle.bddl_model.specs.declared.formula.Quant.TheVariants.{Exists}
 use Rattle.bddl_model.specs.declared.texts.DomainText.{DomainText}
 use Rattle.bddl_model.specs.declared.texts.ProblemText.{ProblemText}
+use Rattle.bddl_model.specs.declared.fault.ReadFault.{ReadFault}
+use Rattle.bddl_model.specs.declared.check.CheckFault.{CheckFault}
+use Rattle.bddl_model.specs.declared.command.Command.{Command}
+use Rattle.bddl_model.specs.declared.command.Command.TheVariants.{Compile, FormatDomain, FormatProblem, Help, Version}
 use Rattle.bddl_model.specs.Files.{Files}
-use Rattle.bddl_model.specs.Request.{Request, compile, fmt_domain, fmt_problem}
+use Rattle.bddl_model.specs.About.{help_text, version_text}
 use Rattle.bddl_model.specs.Notes as notes
 use Rattle.bddl_model.specs.Tokens.{Lexeme}
 use Rattle.bddl_model.specs.Grammar.{domain, problem}
 use Rattle.bddl_model.specs.Canonical.{domain_text, problem_text}
-use Rattle.bddl_model.specs.declared.fault.ReadFault.{ReadFault}
 use Rattle.bddl_model.specs.Reading.{Reads, ReadFails}
-use Rattle.bddl_model.specs.Truth.{Formula, form_value}
-use Rattle.bddl_model.specs.Forms.{IsForm}
+use Rattle.bddl_model.specs.Truth.{Formula}
 use Rattle.bddl_model.specs.FormulaText.{qtext}
 use Rattle.bddl_model.specs.Qdimacs.{HasOneForm}
-use Rattle.bddl_model.specs.Layout.{layout, blocks, prefix_of, bounds}
-use Rattle.bddl_model.specs.declared.check.CheckFault.{CheckFault}
 use Rattle.bddl_model.specs.Setup.{Setup}
 use Rattle.bddl_model.specs.Check.{checked_setup}
-use Rattle.bddl_model.specs.Start.{IsStartProblem}
-use Rattle.bddl_model.specs.Win.{win}
+use Rattle.bddl_model.specs.Start.{IsStartProblem, no_actions}
+use Rattle.bddl_model.specs.Encodes.{Encodes}
+use Rattle.bddl_model.specs.Request.{Request, limits_of, files_of}
 
 -- how a call ends that is not cut short: its status, and what it wrote
 pub record End : Type 0 where
@@ -36,87 +36,119 @@ refused status note = record { status = status; out = []; note = note }
 abbrev pub done : List ℕ → End
 done text = record { status = 0; out = text; note = [] }
 
+-- the text is written, and there is nothing to note
+abbrev pub Says : List ℕ → End → Type 0
+Says text end = end ≡ done text
+
+-- ---- games
+
+-- goes on with the tree of a text
+abbrev pub TextThen : {A : Type 0} → (List Lexeme → A → Type 0) → (List ℕ → ReadFault → List ℕ) → List ℕ → (A → End → Type 0) → End → Type 0
+TextThen {A} grammar fault_note bytes next end =
+    ((f : ReadFault) × ReadFails grammar bytes f × (end ≡ refused 2 (fault_note bytes f)))
+    ⊎ ((tree : A) × Reads grammar bytes tree × next tree end)
+
+abbrev pub DomainThen : List ℕ → (DomainText → End → Type 0) → End → Type 0
+DomainThen bytes next end = TextThen domain notes.domain_fault bytes next end
+
+abbrev pub ProblemThen : List ℕ → (ProblemText → End → Type 0) → End → Type 0
+ProblemThen bytes next end = TextThen problem notes.problem_fault bytes next end
+
+-- goes on with the setup that two trees state
+abbrev pub CheckThen : DomainText → ProblemText → (Setup → End → Type 0) → End → Type 0
+CheckThen dom prob next end =
+    ((f : CheckFault) × (checked_setup dom prob ≡ Err f) × (end ≡ refused 2 (notes.check_note f)))
+    ⊎ ((s : Setup) × (checked_setup dom prob ≡ Ok s) × next s end)
+
+-- goes on with the setup that two texts state
+abbrev pub GameThen : List ℕ → List ℕ → (Setup → End → Type 0) → End → Type 0
+GameThen d p next end = DomainThen d (λ dom. ProblemThen p (λ prob. CheckThen dom prob next)) end
+
 -- ---- compiling
-
--- a game file has at most so many bytes
-abbrev pub file_limit : ℕ
-file_limit = 1048576
-
-abbrev pub no_actions : DomainText
-no_actions = record { black = []; white = [] }
-
--- The prefix is that of the inputs, with existential variables behind them; the clauses are few enough to be counted in a text; the value is that of winning.
-pub record Encodes (form : Formula) (s : Setup) : Type 0 where
-  pub prefix : (gates : ℕ) × (form.prefix ≡ prefix_of (blocks (layout s.game s.first s.depth)) ++ bounds Exists ((layout s.game s.first s.depth).inputs + 1) gates)
-  pub proper : IsForm form
-  pub few : length form.clauses < 1000000000
-  pub value : form_value form ≡ win s.game s.first s.board s.depth
 
 -- the texts have these trees, and checking them gives this
 abbrev pub States : List ℕ → List ℕ → DomainText → ProblemText → Result Setup CheckFault → Type 0
 States d p dom prob checked = Reads domain d dom × Reads problem p prob × (checked_setup dom prob ≡ checked)
 
--- the texts state this setup, which is built: the domain has no actions, and the problem asks for the start board alone
-abbrev pub IsBuilt : List ℕ → List ℕ → ProblemText → Setup → Type 0
-IsBuilt d p prob s = States d p no_actions prob (Ok s) × IsStartProblem prob
-
--- The text is that of a form that encodes the setup which the texts state; it is the one form that is read from the text.
-pub record Compiles (d p text : List ℕ) : Type 0 where
+-- The text is that of a form that encodes the setup which two texts state; it is the one form that is read from the text. Their game
+-- is built: the domain has no actions, and the problem asks for the start board alone.
+pub record Compiles (d p : List ℕ) (s : Setup) (text : List ℕ) : Type 0 where
   pub prob : ProblemText
-  pub setup : Setup
-  pub built : IsBuilt d p prob setup
+  pub states : States d p no_actions prob (Ok s)
+  pub built : IsStartProblem prob
   pub form : Formula
-  pub encodes : Encodes form setup
+  pub encodes : Encodes form s
   pub written : text ≡ qtext form
   pub read : HasOneForm text form
 
--- What compiling two texts may end as: a fault of the domain's text is told, or else of the problem's, or else of the game that they state; then that the domain has actions, or else that more is asked for than the start board. Else a text is written.
-pub data CompileEnds (d p : List ℕ) (end : End) : Type 0 where
-  domain_fails : (f : ReadFault) → ReadFails domain d f → end ≡ refused 2 (notes.domain_fault d f) → CompileEnds d p end
-  problem_fails : (dom : DomainText) (f : ReadFault) → Reads domain d dom → ReadFails problem p f → end ≡ refused 2 (notes.problem_fault p f) → CompileEnds d p end
-  check_fails : (dom : DomainText) (prob : ProblemText) (f : CheckFault) → States d p dom prob (Err f) → end ≡ refused 2 (notes.check_note f) → CompileEnds d p end
-  domain_not_built : (dom : DomainText) (prob : ProblemText) (s : Setup) → States d p dom prob (Ok s) → (dom ≡ no_actions → ⊥) → end ≡ refused 2 notes.domain_not_built → CompileEnds d p end
-  problem_not_built : (prob : ProblemText) (s : Setup) → States d p no_actions prob (Ok s) → (IsStartProblem prob → ⊥) → end ≡ refused 2 notes.problem_not_built → CompileEnds d p end
-  compiles : (text : List ℕ) → Compiles d p text → end ≡ done text → CompileEnds d p end
+-- What compiling the setup of two texts may end as: that the domain has actions is told, or else that more is asked for than the start board, or a text is written.
+pub data CompileEnds (d p : List ℕ) (s : Setup) (end : End) : Type 0 where
+  domain_not_built : (dom : DomainText) → Reads domain d dom → (dom ≡ no_actions → ⊥) → end ≡ refused 2 notes.domain_not_built → CompileEnds d p s end
+  problem_not_built : (prob : ProblemText) → Reads domain d no_actions → Reads problem p prob → (IsStartProblem prob → ⊥) → end ≡ refused 2 notes.problem_not_built → CompileEnds d p s end
+  compiles : (text : List ℕ) → Compiles d p s text → Says text end → CompileEnds d p s end
 
--- ---- printing
+-- ---- the table of ends
 
--- What printing a text of this grammar may end as: its fault is told, or the canonical text of its tree is written.
-pub data FormatEnds {A : Type 0} (grammar : List Lexeme → A → Type 0) (fault_note : List ℕ → ReadFault → List ℕ) (canonical : A → List ℕ) (bytes : List ℕ) (end : End) : Type 0 where
-  fails : (f : ReadFault) → ReadFails grammar bytes f → end ≡ refused 2 (fault_note bytes f) → FormatEnds grammar fault_note canonical bytes end
-  prints : (tree : A) → Reads grammar bytes tree → end ≡ done (canonical tree) → FormatEnds grammar fault_note canonical bytes end
+-- what a command may end as, by the contents of its files and by its numbers
+abbrev pub ContentEnds : Command → List (List ℕ) → List ℕ → End → Type 0
+ContentEnds Compile (d ∷ p ∷ []) [] end = GameThen d p (CompileEnds d p) end
+ContentEnds FormatDomain (d ∷ []) [] end = DomainThen d (λ tree. Says (domain_text tree)) end
+ContentEnds FormatProblem (p ∷ []) [] end = ProblemThen p (λ tree. Says (problem_text tree)) end
+ContentEnds Help [] [] end = Says help_text end
+ContentEnds Version [] [] end = Says version_text end
+ContentEnds _ _ _ end = ⊥
 
-abbrev pub FormatDomainEnds : List ℕ → End → Type 0
-FormatDomainEnds bytes end = FormatEnds domain notes.domain_fault domain_text bytes end
+-- what a command that ends with status 0 writes
+abbrev pub Results : Command → List (List ℕ) → List ℕ → Type 0
+Results Compile (d ∷ p ∷ []) text = (s : Setup) × Compiles d p s text
+Results FormatDomain (d ∷ []) text = (tree : DomainText) × Reads domain d tree × (text ≡ domain_text tree)
+Results FormatProblem (p ∷ []) text = (tree : ProblemText) × Reads problem p tree × (text ≡ problem_text tree)
+Results Help [] text = text ≡ help_text
+Results Version [] text = text ≡ version_text
+Results _ _ text = ⊥
 
-abbrev pub FormatProblemEnds : List ℕ → End → Type 0
-FormatProblemEnds bytes end = FormatEnds problem notes.problem_fault problem_text bytes end
+-- ---- files
+
+-- a length keeps to a limit, if there is one
+abbrev pub IsWithin : Option ℕ → ℕ → Type 0
+IsWithin None n = Unit {0}
+IsWithin (Some most) n = n ≤ most
+
+-- it is told that the file of a word is longer than its limit
+abbrev pub TellsLong : ℕ → Option ℕ → ℕ → End → Type 0
+TellsLong word limit n end = (most : ℕ) × (limit ≡ Some most) × (most < n) × (end ≡ refused 2 (notes.too_long word most))
+
+-- Goes on with the file that the word of this number names. Where reads may fail (`faulty`), the read of a file that is held may too.
+abbrev pub FileThen : Bool → ℕ → Option ℕ → Option (List ℕ) → (List ℕ → End → Type 0) → End → Type 0
+FileThen faulty word limit None next end = end ≡ refused 3 (notes.read_fault word)
+FileThen faulty word limit (Some file) next end =
+    (IsWithin limit (length file) × next file end)
+    ⊎ (TellsLong word limit (length file) end
+    ⊎ (IsTrue faulty × (end ≡ refused 3 (notes.read_fault word))))
+
+-- goes on with the files of as many words, the first of which has this number
+abbrev pub FilesThen : Bool → ℕ → List (Option ℕ) → List (Option (List ℕ)) → (List (List ℕ) → End → Type 0) → End → Type 0
+FilesThen faulty word [] [] next end = next [] end
+FilesThen faulty word (limit ∷ limits) (file ∷ files) next end =
+    FileThen faulty word limit file (λ bytes. FilesThen faulty (word + 1) limits files (λ contents. next (bytes ∷ contents))) end
+FilesThen _ _ _ _ next end = ⊥
 
 -- ---- every request
 
--- Goes on with a file that is not too long, or tells what is wrong with the word of this number: it names no file, or one that
--- is too long. Where reads may fail (`faulty`), the read of a file that is held may too.
-abbrev pub FileThen : Bool → ℕ → Option (List ℕ) → (List ℕ → End → Type 0) → End → Type 0
-FileThen faulty word None next end = end ≡ refused 3 (notes.read_fault word)
-FileThen faulty word (Some file) next end =
-    ((length file ≤ file_limit) × next file end)
-    ⊎ (((file_limit < length file) × (end ≡ refused 2 (notes.too_long word file_limit)))
-    ⊎ (IsTrue faulty × (end ≡ refused 3 (notes.read_fault word))))
+-- what stands under the names, for all that is told of files: nothing told, it may be anything
+abbrev pub Finds : Option Files → List (List ℕ) → List (Option (List ℕ)) → Type 0
+Finds None names found = length found ≡ length names
+Finds (Some files) names found = found ≡ map (get files) names
 
--- what a request may end as, from files whose reads may fail or not
-abbrev pub RequestEnds : Bool → Files → Option Request → End → Type 0
-RequestEnds faulty files None end = end ≡ refused 1 notes.no_such_request
-RequestEnds faulty files (Some (compile d p)) end = FileThen faulty 2 (get files d) (λ dom. FileThen faulty 3 (get files p) (λ prob. CompileEnds dom prob)) end
-RequestEnds faulty files (Some (fmt_domain d)) end = FileThen faulty 2 (get files d) FormatDomainEnds end
-RequestEnds faulty files (Some (fmt_problem p)) end = FileThen faulty 2 (get files p) FormatProblemEnds end
+-- what a request may end as, by what stands under the names of its files
+abbrev pub RequestEnds : Bool → Option Request → List (Option (List ℕ)) → End → Type 0
+RequestEnds faulty None found end = end ≡ refused 1 notes.no_such_request
+RequestEnds faulty (Some r) found end = FilesThen faulty 2 (limits_of r.command) found (λ contents. ContentEnds r.command contents r.numbers) end
 
--- the text is the canonical one of the tree that the bytes spell
-abbrev pub Formats : {A : Type 0} → (List Lexeme → A → Type 0) → (A → List ℕ) → List ℕ → List ℕ → Type 0
-Formats {A} grammar canonical bytes text = (tree : A) × Reads grammar bytes tree × (text ≡ canonical tree)
+abbrev pub MayEnd : Bool → Option Files → Option Request → End → Type 0
+MayEnd faulty held request end = (found : List (Option (List ℕ))) × Finds held (files_of request) found × RequestEnds faulty request found end
 
--- a request that is carried out with status 0 writes this
-abbrev pub IsResult : Files → Option Request → List ℕ → Type 0
-IsResult files None text = ⊥
-IsResult files (Some (compile d p)) text = (dom prob : List ℕ) × (get files d ≡ Some dom) × (get files p ≡ Some prob) × Compiles dom prob text
-IsResult files (Some (fmt_domain d)) text = (dom : List ℕ) × (get files d ≡ Some dom) × Formats domain domain_text dom text
-IsResult files (Some (fmt_problem p)) text = (prob : List ℕ) × (get files p ≡ Some prob) × Formats problem problem_text prob text
+-- a request that ends with status 0 writes this: the result of the contents of its files
+abbrev pub IsResult : Option Files → Option Request → List ℕ → Type 0
+IsResult held None text = ⊥
+IsResult held (Some r) text = (contents : List (List ℕ)) × Finds held r.files (map Some contents) × Results r.command contents text

@@ -1,12 +1,12 @@
 -- What a QDIMACS text says, and which form it has.
-use Rattle.std.specs.Prelude.{ℕ, ◌≡◌, ◌≤◌, Bool, false, not, ◌&&◌, ◌||◌, ◌==◌, if◌then◌else◌, List, [], ◌∷◌, ◌++◌, length, map, filter, flat_map}
-use Rattle.std.specs.List.{list_any, range_with_len}
+use Rattle.std.specs.Prelude.{ℕ, ◌≡◌, ◌≤◌, Bool, false, not, ◌&&◌, ◌||◌, if◌then◌else◌, List, [], ◌∷◌, ◌++◌, length, map, filter, flat_map}
+use Rattle.std.specs.List.{range_with_len}
 use Rattle.bddl_model.specs.declared.formula.Quant.{Quant}
 use Rattle.bddl_model.specs.declared.formula.Quant.TheVariants.{Exists}
 use Rattle.bddl_model.specs.declared.formula.Bound.{Bound}
 use Rattle.bddl_model.specs.declared.formula.Lit.{Lit}
 use Rattle.bddl_model.specs.Truth.{Formula, negation}
-use Rattle.bddl_model.specs.Forms.{has_number, AllInRange, AllApart, greatest_variables, literal_variables}
+use Rattle.bddl_model.specs.Forms.{has_number, has_literal, AllInRange, AllApart, greatest_variables, literal_variables}
 use Rattle.bddl_model.specs.FormulaText.{QuantSet, FormulaText}
 use Rattle.bddl_model.specs.FormulaWords.{words_of, FormulaToken, problem, cnf, quantifier, number, token_of}
 
@@ -44,12 +44,6 @@ pub record Says (bytes : List ℕ) (t : FormulaText) : Type 0 where
   pub proper : IsProper t
 
 -- ---- the form of a text
-
-abbrev pub same_literal : Lit → Lit → Bool
-same_literal l m = l.var.0 == m.var.0 && (if l.negated then m.negated else not m.negated)
-
-abbrev pub has_literal : List Lit → Lit → Bool
-has_literal ls l = list_any (same_literal l) ls
 
 -- these literals, and behind them those of a clause that don't stand there before
 abbrev pub with_new_literals : List Lit → List Lit → List Lit

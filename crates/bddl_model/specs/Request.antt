@@ -1,22 +1,98 @@
--- The requests, by their words.
-use Rattle.std.specs.Prelude.{ℕ, List, [], ◌∷◌, Option, None, Some, codes, bytes_eq, if◌then◌else◌}
+-- The requests of a command line: a command, the files that it names, and its numbers.
+use Rattle.std.specs.Prelude.{ℕ, ◌+◌, ◌^◌, ◌==◌, ◌&&◌, nat_lt, Bool, List, [], ◌∷◌, length, take, drop, Option, None, Some, codes, bytes_eq, if◌then◌else◌}
+use Rattle.std.specs.Fmt.{decimal}
+use Rattle.std.specs.List.{list_any}
+use Rattle.bddl_model.specs.Bytes.{digits_from}
+use Rattle.bddl_model.specs.declared.command.Command.{Command}
+use Rattle.bddl_model.specs.declared.command.Command.TheVariants.{Compile, FormatDomain, FormatProblem, Help, Version}
 
--- a request, by the names of its files
-pub data Request : Type 0 where
-  compile : List ℕ → List ℕ → Request
-  fmt_domain : List ℕ → Request
-  fmt_problem : List ℕ → Request
+-- ---- the table of commands
+
+-- the words that name it
+abbrev pub names_of : Command → List (List ℕ)
+names_of Compile = codes "compile" ∷ []
+names_of FormatDomain = codes "fmt-domain" ∷ []
+names_of FormatProblem = codes "fmt-problem" ∷ []
+names_of Help = codes "help" ∷ codes "--help" ∷ []
+names_of Version = codes "version" ∷ codes "--version" ∷ []
+
+-- a game file has at most so many bytes
+abbrev pub game_limit : Option ℕ
+game_limit = Some 1048576
+
+-- the files that it takes, by the most bytes that each may have, if there is such a number
+abbrev pub limits_of : Command → List (Option ℕ)
+limits_of Compile = game_limit ∷ game_limit ∷ []
+limits_of FormatDomain = game_limit ∷ []
+limits_of FormatProblem = game_limit ∷ []
+limits_of Help = []
+limits_of Version = []
+
+-- how many numbers follow the files
+abbrev pub numbers_of : Command → ℕ
+numbers_of Compile = 0
+numbers_of FormatDomain = 0
+numbers_of FormatProblem = 0
+numbers_of Help = 0
+numbers_of Version = 0
+
+abbrev pub commands : List Command
+commands = Compile ∷ FormatDomain ∷ FormatProblem ∷ Help ∷ Version ∷ []
+
+abbrev pub is_named : List ℕ → Command → Bool
+is_named word c = list_any (bytes_eq word) (names_of c)
+
+-- ---- numbers
+
+-- the number, where it has 64 bits and the word is the way in which it is written: no sign, and no zero before other digits
+abbrev pub number_written : List ℕ → Option ℕ → Option ℕ
+number_written word None = None
+number_written word (Some n) = if bytes_eq word (decimal n) && nat_lt n (2 ^ 64) then Some n else None
+
+abbrev pub number_in_word : List ℕ → Option ℕ
+number_in_word word = number_written word (digits_from 0 word)
+
+-- those of all words, if each is one
+abbrev pub onto_numbers : Option ℕ → Option (List ℕ) → Option (List ℕ)
+onto_numbers None ns = None
+onto_numbers (Some n) None = None
+onto_numbers (Some n) (Some ns) = Some (n ∷ ns)
+
+abbrev pub numbers_in_words : List (List ℕ) → Option (List ℕ)
+numbers_in_words [] = Some []
+numbers_in_words (w ∷ ws) = onto_numbers (number_in_word w) (numbers_in_words ws)
+
+-- ---- requests
+
+-- a command with the names of its files and with its numbers
+pub record Request : Type 0 where
+  pub command : Command
+  pub files : List (List ℕ)
+  pub numbers : List ℕ
+
+abbrev pub first_named : List ℕ → List Command → Option Command
+first_named word [] = None
+first_named word (c ∷ cs) = if is_named word c then Some c else first_named word cs
+
+-- the command takes so many words behind its own
+abbrev pub takes : Command → ℕ → Bool
+takes c n = n == length (limits_of c) + numbers_of c
+
+abbrev pub with_numbers : Command → List (List ℕ) → Option (List ℕ) → Option Request
+with_numbers c files None = None
+with_numbers c files (Some numbers) = Some (record { command = c; files = files; numbers = numbers })
+
+abbrev pub request_with : Option Command → List (List ℕ) → Option Request
+request_with None words = None
+request_with (Some c) words =
+    if takes c (length words) then with_numbers c (take (length (limits_of c)) words) (numbers_in_words (drop (length (limits_of c)) words))
+    else None
 
 abbrev pub request_of : List (List ℕ) → Option Request
-request_of (word ∷ file ∷ []) =
-    if bytes_eq word (codes "fmt-domain") then Some (fmt_domain file) else (
-    if bytes_eq word (codes "fmt-problem") then Some (fmt_problem file) else None)
-request_of (word ∷ domain ∷ problem ∷ []) = if bytes_eq word (codes "compile") then Some (compile domain problem) else None
-request_of words = None
+request_of [] = None
+request_of (word ∷ words) = request_with (first_named word commands) words
 
--- the words that name a request's files, by their numbers, the request's own word being the first
-abbrev pub file_words : Option Request → List ℕ
-file_words None = []
-file_words (Some (compile domain problem)) = 2 ∷ 3 ∷ []
-file_words (Some (fmt_domain domain)) = 2 ∷ []
-file_words (Some (fmt_problem problem)) = 2 ∷ []
+-- the files that a request names
+abbrev pub files_of : Option Request → List (List ℕ)
+files_of None = []
+files_of (Some r) = r.files

@@ -1,20 +1,10 @@
 -- Resolution of two constraints on a variable, and reduction of one.
-use Rattle.std.specs.Prelude.{◌≡◌, ℕ, Bool, true, false, not, ◌&&◌, ◌==◌, List, ◌++◌, filter}
-use Rattle.std.specs.List.{list_any}
+use Rattle.std.specs.Prelude.{◌≡◌, ℕ, Bool, true, false, not, ◌==◌, List, ◌++◌, filter}
 use Rattle.bddl_model.specs.declared.formula.Bound.{Bound}
 use Rattle.bddl_model.specs.declared.formula.Lit.{Lit}
 use Rattle.bddl_model.specs.Truth.{negation}
+use Rattle.bddl_model.specs.Forms.{has_literal}
 use Rattle.bddl_model.specs.Fine.{among_first, clause_depth, cube_depth}
-
-abbrev pub same_sign : Bool → Bool → Bool
-same_sign true b = b
-same_sign false b = not b
-
-abbrev pub same_literal : Lit → Lit → Bool
-same_literal l m = l.var.0 == m.var.0 && same_sign l.negated m.negated
-
-abbrev pub has_literal : List Lit → Lit → Bool
-has_literal ls l = list_any (same_literal l) ls
 
 -- no literal stands there beside its opposite
 abbrev pub NoOpposites : List Lit → Type 0
@@ -35,10 +25,10 @@ joined ls ms = ls ++ filter (λ m. not (has_literal ls m)) ms
 abbrev pub resolvent : ℕ → List Lit → List Lit → List Lit
 resolvent v ls ms = joined (without v ls) (without v ms)
 
--- what is left of a clause without its universal literals behind the last existential one, those of a universal first block excepted
-abbrev pub reduced_clause : List Bound → List Lit → List Lit
-reduced_clause prefix c = among_first (clause_depth prefix c) prefix c
+-- what is left of a clause without its universal literals behind the last existential one, those of the variables that are kept excepted
+abbrev pub reduced_clause : ℕ → List Bound → List Lit → List Lit
+reduced_clause kept prefix c = among_first (clause_depth kept prefix c) prefix c
 
--- and of a cube without its existential literals behind the last universal one, those of an existential first block excepted
-abbrev pub reduced_cube : List Bound → List Lit → List Lit
-reduced_cube prefix k = among_first (cube_depth prefix k) prefix k
+-- and of a cube without its existential literals behind the last universal one
+abbrev pub reduced_cube : ℕ → List Bound → List Lit → List Lit
+reduced_cube kept prefix k = among_first (cube_depth kept prefix k) prefix k

@@ -1,10 +1,14 @@
--- A problem that asks for the start board alone, with goal lines in plain numbers.
+-- Which games are built: those without an action, whose problem asks for the start board alone with goal lines in plain numbers.
 use Rattle.std.specs.Prelude.{◌≡◌, Bool, true, false, ◌&&◌, []}
 use Rattle.std.specs.List.{list_all}
 use Rattle.bddl_model.specs.declared.texts.TermText.{TermText}
 use Rattle.bddl_model.specs.declared.texts.TermText.TheVariants.{Number}
 use Rattle.bddl_model.specs.declared.texts.AtomText.{AtomText}
+use Rattle.bddl_model.specs.declared.texts.DomainText.{DomainText}
 use Rattle.bddl_model.specs.declared.texts.ProblemText.{ProblemText}
+
+abbrev pub no_actions : DomainText
+no_actions = record { black = []; white = [] }
 
 abbrev pub is_number : TermText → Bool
 is_number (Number n) = true

@@ -7,7 +7,7 @@ use Rattle.bddl_model.specs.declared.formula.Lit.{Lit}
 use Rattle.bddl_model.specs.Truth.{Formula, negation}
 use Rattle.bddl_model.specs.FormulaText.{same_quant}
 use Rattle.bddl_model.specs.Circuit.{positive}
-use Rattle.bddl_model.specs.Resolution.{has_literal}
+use Rattle.bddl_model.specs.Forms.{has_literal}
 
 -- ---- clauses that a form has
 

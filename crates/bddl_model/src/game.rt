@@ -3,6 +3,9 @@ ghost use Rattle.bddl_model.specs.Game as game;
 
 use crate::Span;
 
+/// The most columns and the most rows of a board.
+pub const GREATEST_SIDE: u32 = 16;
+
 #[derive(Clone, Copy, Debug, PartialEq, Eq)]
 pub enum Side {
     Black,

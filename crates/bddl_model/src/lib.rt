@@ -6,6 +6,7 @@
 
 mod check;
 mod circuit;
+mod command;
 mod fault;
 mod formula;
 mod game;
@@ -17,9 +18,10 @@ mod tokens;
 
 pub use check::{Axis, CheckFault, Item, Part};
 pub use circuit::{Gate, NodeId, Wire};
+pub use command::Command;
 pub use fault::ReadFault;
 pub use formula::{Block, Bound, Kind, Lit, LitList, Quant, Span, Var};
-pub use game::{Atom, Mark, Move, PlyBits, Rect, Side, Term};
+pub use game::{Atom, GREATEST_SIDE, Mark, Move, PlyBits, Rect, Side, Term};
 pub use list::Items;
 pub use memory::NoMemory;
 pub use steps::Steps;

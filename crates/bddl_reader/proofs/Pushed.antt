@@ -18,12 +18,12 @@ joined-first : {A : Type 0} (text_of : A → List ℕ) (x : A) (xs : List A) →
 joined-first text_of x [] = sym (append-nil (text_of x))
 joined-first text_of x (y ∷ ys) = ap (λ t. text_of x ++ 32 ∷ t) (joined-first text_of y ys)
 
-pub listed_pushed : {A : Type 0} (text_of : A → List ℕ) (xs : List A) (d : A) → 1 ≤ length xs → (before opened one more now : List ℕ)
-    → opened ≡ before ++ 40 ∷ [] → one ≡ opened ++ text_of (slice_index_or xs 0 d) → more ≡ one ++ flat_map (λ a. codes " " ++ text_of a) (take (length xs - 1) (drop 1 xs)) → now ≡ more ++ 41 ∷ []
+pub listed_pushed : {A : Type 0} (text_of : A → List ℕ) (xs : List A) (first : A) → 1 ≤ length xs → first ≡ slice_index_or xs 0 first → (before opened one more now : List ℕ)
+    → opened ≡ before ++ 40 ∷ [] → one ≡ opened ++ text_of first → more ≡ one ++ flat_map (λ a. codes " " ++ text_of a) (take (length xs - 1) (drop 1 xs)) → now ≡ more ++ 41 ∷ []
     → now ≡ before ++ listed (map text_of xs)
-listed_pushed text_of [] d some before opened one more now is_opened is_one is_more is_now = absurd (omega arith)
-listed_pushed text_of (x ∷ xs) d some before opened one more now is_opened is_one is_more is_now =
-    rw (is_now, is_more, is_one, is_opened, take_rest (x ∷ xs) 1, joined-first text_of x xs) (simp append_assoc)
+listed_pushed text_of [] first some is before opened one more now is_opened is_one is_more is_now = absurd (omega arith)
+listed_pushed text_of (x ∷ xs) first some is before opened one more now is_opened is_one is_more is_now =
+    rw (is_now, is_more, is_one, is_opened, is, take_rest (x ∷ xs) 1, joined-first text_of x xs) (simp append_assoc)
 
 -- one more of what is left
 pub next_pushed : {A : Type 0} (text_of : A → List ℕ) (xs : List A) (i : ℕ) (item : A) → i < length xs → item ≡ slice_index_or xs i item → (so_far now all : List ℕ)

@@ -17,9 +17,6 @@ pub record Spells {A : Type 0} (P : Text Lexeme A) (B : List ℕ → Type 0) (te
   pub spells : P tokens x
   pub leads : (rest : List ℕ) (ws : List Lexeme) → B rest → Tokens rest ws → Tokens (text ++ rest) (tokens ++ ws)
 
-pub spells_stricter : {A : Type 0} {P : Text Lexeme A} {B C : List ℕ → Type 0} {text : List ℕ} {x : A} → Spells P B text x → ((rest : List ℕ) → C rest → B rest) → Spells P C text x
-spells_stricter s more = record { tokens = s.tokens; spells = s.spells; leads = λ rest ws behind tokens. s.leads rest ws (more rest behind) tokens }
-
 pub respelled : {A : Type 0} {P : Text Lexeme A} {B : List ℕ → Type 0} {text other : List ℕ} {x : A} → text ≡ other → Spells P B text x → Spells P B other x
 respelled {P = P} {B = B} {x = x} same s = subst (λ z. Spells P B z x) same s
 

@@ -67,19 +67,19 @@ cell_at = do
   _ ← right_at
   done_at (record { mark = mark; x = x; y = y })
 
-abbrev pub atoms_at : Reader Lexeme (List AtomText)
-atoms_at = do
+-- something between parentheses
+abbrev pub enclosed_at : {A : Type 0} → Reader Lexeme A → Reader Lexeme A
+enclosed_at inside = do
   _ ← left_at
-  found ← listed a_mark atom_at
+  found ← inside
   _ ← right_at
   done_at found
 
+abbrev pub atoms_at : Reader Lexeme (List AtomText)
+atoms_at = enclosed_at (listed a_mark atom_at)
+
 abbrev pub cells_at : Reader Lexeme (List InitAtom)
-cells_at = do
-  _ ← left_at
-  found ← listed a_mark cell_at
-  _ ← right_at
-  done_at found
+cells_at = enclosed_at (listed a_mark cell_at)
 
 abbrev pub lines_at : Reader Lexeme (List (List AtomText))
 lines_at = listed (is Left (codes "(")) atoms_at

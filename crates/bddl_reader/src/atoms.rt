@@ -1,15 +1,18 @@
 // Atoms and goal lines.
 
+ghost use Rattle.std.specs.Prelude.{codes};
+ghost use Rattle.bddl_model.specs.declared.tokens.TokenKind.TheVariants.{Left};
 ghost use Rattle.bddl_model.specs.Tokens.{lexemes};
-ghost use Rattle.bddl_model.specs.Meanings.{a_mark};
-ghost use Rattle.bddl_reader.specs.ListReaders.{listed};
+ghost use Rattle.bddl_model.specs.Meanings.{is, a_mark};
+ghost use Rattle.bddl_reader.specs.ListReaders.{lacks};
 ghost use Rattle.bddl_reader.specs.Gives.{Gives};
-ghost use Rattle.bddl_reader.specs.GrammarReaders.{atom_at, atoms_at, lines_at};
+ghost use Rattle.bddl_reader.specs.GrammarReaders.{atom_at, atoms_at};
 
+use crate::list::{Item, enclosed};
 use crate::single::{is_next, mark, mark_is_next, token};
 use crate::stop::Stop;
 use crate::terms::{Coordinate, term};
-use bddl_model::{AtomList, AtomText, LineList, Token, TokenKind};
+use bddl_model::{AtomList, AtomText, Token, TokenKind};
 use std::alloc::Global;
 
 fn atom<'a>(bytes: &[u8], rest: &'a [Token]) -> Result<(AtomText, &'a [Token]), Stop>
@@ -24,50 +27,39 @@ fn atom<'a>(bytes: &[u8], rest: &'a [Token]) -> Result<(AtomText, &'a [Token]), 
     Ok((AtomText { mark, x, y }, rest))
 }
 
-fn listed_atoms<'a>(
-    alloc: Global,
-    bytes: &[u8],
-    tokens: &'a [Token],
-) -> Result<(AtomList, &'a [Token]), Stop>
-    ensures { Gives (λ x. (x.0, lexemes bytes.now x.1.now)) result (listed a_mark atom_at (lexemes bytes.now tokens.now)) }
-{
-    let mut found = AtomList::new(alloc);
-    let mut rest = tokens;
-    'atoms: while mark_is_next(bytes, rest) {
-        let (next, after) = atom(bytes, rest)?;
-        found.push(next)?;
-        rest = after;
+impl Item for AtomText {
+    ghost stops = { lacks a_mark };
+
+    ghost item_at = { atom_at };
+
+    fn is_next(bytes: &[u8], rest: &[Token]) -> bool {
+        mark_is_next(bytes, rest)
     }
-    Ok((found, rest))
+
+    fn read<'a>(
+        _alloc: Global,
+        bytes: &[u8],
+        rest: &'a [Token],
+    ) -> Result<(AtomText, &'a [Token]), Stop> {
+        atom(bytes, rest)
+    }
 }
 
-/// Atoms between parentheses.
-pub fn atoms<'a>(
-    alloc: Global,
-    bytes: &[u8],
-    rest: &'a [Token],
-) -> Result<(AtomList, &'a [Token]), Stop>
-    ensures { Gives (λ x. (x.0, lexemes bytes.now x.1.now)) result (atoms_at (lexemes bytes.now rest.now)) }
-{
-    let rest = token(bytes, rest, TokenKind::Left, b"(")?;
-    let (found, rest) = listed_atoms(alloc, bytes, rest)?;
-    let rest = token(bytes, rest, TokenKind::Right, b")")?;
-    Ok((found, rest))
-}
+// A goal line.
+impl Item for AtomList {
+    ghost stops = { lacks (is Left (codes "(")) };
 
-pub fn lines<'a>(
-    alloc: Global,
-    bytes: &[u8],
-    tokens: &'a [Token],
-) -> Result<(LineList, &'a [Token]), Stop>
-    ensures { Gives (λ x. (x.0, lexemes bytes.now x.1.now)) result (lines_at (lexemes bytes.now tokens.now)) }
-{
-    let mut found = LineList::new(alloc);
-    let mut rest = tokens;
-    'lines: while is_next(bytes, rest, TokenKind::Left, b"(") {
-        let (next, after) = atoms(alloc, bytes, rest)?;
-        found.push(next)?;
-        rest = after;
+    ghost item_at = { atoms_at };
+
+    fn is_next(bytes: &[u8], rest: &[Token]) -> bool {
+        is_next(bytes, rest, TokenKind::Left, b"(")
     }
-    Ok((found, rest))
+
+    fn read<'a>(
+        alloc: Global,
+        bytes: &[u8],
+        rest: &'a [Token],
+    ) -> Result<(AtomList, &'a [Token]), Stop> {
+        enclosed(alloc, bytes, rest)
+    }
 }

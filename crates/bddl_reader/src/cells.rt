@@ -2,14 +2,15 @@
 
 ghost use Rattle.bddl_model.specs.Tokens.{lexemes};
 ghost use Rattle.bddl_model.specs.Meanings.{a_mark};
-ghost use Rattle.bddl_reader.specs.ListReaders.{listed};
+ghost use Rattle.bddl_reader.specs.ListReaders.{lacks};
 ghost use Rattle.bddl_reader.specs.Gives.{Gives};
-ghost use Rattle.bddl_reader.specs.GrammarReaders.{cell_at, cells_at};
+ghost use Rattle.bddl_reader.specs.GrammarReaders.{cell_at};
 
+use crate::list::Item;
 use crate::numbers::number;
 use crate::single::{mark, mark_is_next, token};
 use crate::stop::Stop;
-use bddl_model::{InitAtom, InitList, Token, TokenKind};
+use bddl_model::{InitAtom, Token, TokenKind};
 use std::alloc::Global;
 
 fn cell<'a>(bytes: &[u8], rest: &'a [Token]) -> Result<(InitAtom, &'a [Token]), Stop>
@@ -24,32 +25,20 @@ fn cell<'a>(bytes: &[u8], rest: &'a [Token]) -> Result<(InitAtom, &'a [Token]), 
     Ok((InitAtom { mark, x, y }, rest))
 }
 
-fn listed_cells<'a>(
-    alloc: Global,
-    bytes: &[u8],
-    tokens: &'a [Token],
-) -> Result<(InitList, &'a [Token]), Stop>
-    ensures { Gives (λ x. (x.0, lexemes bytes.now x.1.now)) result (listed a_mark cell_at (lexemes bytes.now tokens.now)) }
-{
-    let mut found = InitList::new(alloc);
-    let mut rest = tokens;
-    'cells: while mark_is_next(bytes, rest) {
-        let (next, after) = cell(bytes, rest)?;
-        found.push(next)?;
-        rest = after;
-    }
-    Ok((found, rest))
-}
+impl Item for InitAtom {
+    ghost stops = { lacks a_mark };
 
-pub fn cells<'a>(
-    alloc: Global,
-    bytes: &[u8],
-    rest: &'a [Token],
-) -> Result<(InitList, &'a [Token]), Stop>
-    ensures { Gives (λ x. (x.0, lexemes bytes.now x.1.now)) result (cells_at (lexemes bytes.now rest.now)) }
-{
-    let rest = token(bytes, rest, TokenKind::Left, b"(")?;
-    let (found, rest) = listed_cells(alloc, bytes, rest)?;
-    let rest = token(bytes, rest, TokenKind::Right, b")")?;
-    Ok((found, rest))
+    ghost item_at = { cell_at };
+
+    fn is_next(bytes: &[u8], rest: &[Token]) -> bool {
+        mark_is_next(bytes, rest)
+    }
+
+    fn read<'a>(
+        _alloc: Global,
+        bytes: &[u8],
+        rest: &'a [Token],
+    ) -> Result<(InitAtom, &'a [Token]), Stop> {
+        cell(bytes, rest)
+    }
 }

@@ -1,15 +1,18 @@
 // Actions and domains.
 
-ghost use Rattle.std.specs.Prelude.{[]};
+ghost use Rattle.std.specs.Prelude.{[], codes};
+ghost use Rattle.bddl_model.specs.declared.tokens.TokenKind.TheVariants.{Colon};
 ghost use Rattle.bddl_model.specs.Tokens.{lexemes};
+ghost use Rattle.bddl_model.specs.Meanings.{is};
+ghost use Rattle.bddl_reader.specs.ListReaders.{lacks};
 ghost use Rattle.bddl_reader.specs.Gives.{Gives};
-ghost use Rattle.bddl_reader.specs.GrammarReaders.{parameters_at, action_at, actions_at, domain_at};
+ghost use Rattle.bddl_reader.specs.GrammarReaders.{parameters_at, action_at, domain_at};
 
-use crate::atoms::atoms;
+use crate::list::{Item, enclosed, listed};
 use crate::names::name;
 use crate::single::{ended, is_next, token};
 use crate::stop::Stop;
-use bddl_model::{ActionList, ActionText, DomainText, Token, TokenKind};
+use bddl_model::{ActionText, DomainText, Token, TokenKind};
 use std::alloc::Global;
 
 fn parameters<'a>(bytes: &[u8], rest: &'a [Token]) -> Result<&'a [Token], Stop>
@@ -34,9 +37,9 @@ fn action<'a>(
     let (name, rest) = name(alloc, bytes, rest)?;
     let rest = parameters(bytes, rest)?;
     let rest = token(bytes, rest, TokenKind::Colon, b":precondition")?;
-    let (before, rest) = atoms(alloc, bytes, rest)?;
+    let (before, rest) = enclosed(alloc, bytes, rest)?;
     let rest = token(bytes, rest, TokenKind::Colon, b":effect")?;
-    let (effects, rest) = atoms(alloc, bytes, rest)?;
+    let (effects, rest) = enclosed(alloc, bytes, rest)?;
     let action = ActionText {
         name,
         before,
@@ -45,30 +48,31 @@ fn action<'a>(
     Ok((action, rest))
 }
 
-fn actions<'a>(
-    alloc: Global,
-    bytes: &[u8],
-    tokens: &'a [Token],
-) -> Result<(ActionList, &'a [Token]), Stop>
-    ensures { Gives (λ x. (x.0, lexemes bytes.now x.1.now)) result (actions_at (lexemes bytes.now tokens.now)) }
-{
-    let mut found = ActionList::new(alloc);
-    let mut rest = tokens;
-    'actions: while is_next(bytes, rest, TokenKind::Colon, b":action") {
-        let (next, after) = action(alloc, bytes, rest)?;
-        found.push(next)?;
-        rest = after;
+impl Item for ActionText {
+    ghost stops = { lacks (is Colon (codes ":action")) };
+
+    ghost item_at = { action_at };
+
+    fn is_next(bytes: &[u8], rest: &[Token]) -> bool {
+        is_next(bytes, rest, TokenKind::Colon, b":action")
     }
-    Ok((found, rest))
+
+    fn read<'a>(
+        alloc: Global,
+        bytes: &[u8],
+        rest: &'a [Token],
+    ) -> Result<(ActionText, &'a [Token]), Stop> {
+        action(alloc, bytes, rest)
+    }
 }
 
 pub fn domain(alloc: Global, bytes: &[u8], tokens: &[Token]) -> Result<DomainText, Stop>
     ensures { Gives (λ tree. (tree, [])) result (domain_at (lexemes bytes.now tokens.now)) }
 {
     let rest = token(bytes, tokens, TokenKind::Hash, b"#blackactions")?;
-    let (black, rest) = actions(alloc, bytes, rest)?;
+    let (black, rest) = listed(alloc, bytes, rest)?;
     let rest = token(bytes, rest, TokenKind::Hash, b"#whiteactions")?;
-    let (white, rest) = actions(alloc, bytes, rest)?;
+    let (white, rest) = listed(alloc, bytes, rest)?;
     ended(rest)?;
     Ok(DomainText { black, white })
 }

@@ -10,6 +10,7 @@ mod atoms;
 mod cells;
 mod domain;
 mod laws;
+mod list;
 mod names;
 mod numbers;
 mod printing;

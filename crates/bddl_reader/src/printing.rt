@@ -7,12 +7,12 @@ ghost use Rattle.bddl_model.specs.Canonical.{listed, line, atoms_text, cell_text
 
 mod atoms;
 mod cells;
+mod list;
 mod terms;
 mod words;
 
-use atoms::push_atoms;
 use bddl_model::{ActionText, AtomList, AtomText, DomainText, InitAtom, NoMemory, ProblemText};
-use cells::push_cells;
+use list::push_list;
 use std::alloc::Global;
 use words::{push, push_number};
 
@@ -78,7 +78,7 @@ fn push_atoms_line(text: &mut Vec<u8>, word: &[u8], atoms: &[AtomText]) -> Resul
     ensures { OnOk result (text.new.items ≡ text.old.items ++ line (word.now ++ atoms_text atoms.now)) }
 {
     push(text, word)?;
-    push_atoms(text, atoms)?;
+    push_list(text, atoms)?;
     push(text, b"\n")
 }
 
@@ -105,7 +105,7 @@ fn push_init(text: &mut Vec<u8>, cells: &[InitAtom]) -> Result<(), NoMemory>
     ensures { OnOk result (text.new.items ≡ text.old.items ++ line (codes "#init " ++ listed (map cell_text cells.now))) }
 {
     push(text, b"#init ")?;
-    push_cells(text, cells)?;
+    push_list(text, cells)?;
     push(text, b"\n")
 }
 
@@ -130,7 +130,7 @@ fn push_goal_lines(text: &mut Vec<u8>, lines: &[AtomList]) -> Result<(), NoMemor
     ensures { OnOk result (text.new.items ≡ text.old.items ++ goals_text lines.now) }
 {
     for atoms in lines {
-        push_atoms(text, atoms.as_slice())?;
+        push_list(text, atoms.as_slice())?;
         push(text, b"\n")?;
     }
     Ok(())

@@ -5,8 +5,7 @@ ghost use Rattle.bddl_model.specs.Tokens.{lexemes};
 ghost use Rattle.bddl_reader.specs.Gives.{Gives};
 ghost use Rattle.bddl_reader.specs.GrammarReaders.{problem_at};
 
-use crate::atoms::lines;
-use crate::cells::cells;
+use crate::list::{enclosed, listed};
 use crate::numbers::number;
 use crate::single::{ended, token};
 use crate::stop::Stop;
@@ -20,13 +19,13 @@ pub fn problem(alloc: Global, bytes: &[u8], tokens: &[Token]) -> Result<ProblemT
     let (width, rest) = number(bytes, rest)?;
     let (height, rest) = number(bytes, rest)?;
     let rest = token(bytes, rest, TokenKind::Hash, b"#init")?;
-    let (init, rest) = cells(alloc, bytes, rest)?;
+    let (init, rest) = enclosed(alloc, bytes, rest)?;
     let rest = token(bytes, rest, TokenKind::Hash, b"#depth")?;
     let (depth, rest) = number(bytes, rest)?;
     let rest = token(bytes, rest, TokenKind::Hash, b"#blackgoals")?;
-    let (black, rest) = lines(alloc, bytes, rest)?;
+    let (black, rest) = listed(alloc, bytes, rest)?;
     let rest = token(bytes, rest, TokenKind::Hash, b"#whitegoals")?;
-    let (white, rest) = lines(alloc, bytes, rest)?;
+    let (white, rest) = listed(alloc, bytes, rest)?;
     ended(rest)?;
     Ok(ProblemText {
         width,

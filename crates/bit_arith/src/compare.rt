@@ -1,9 +1,8 @@
 // Comparisons of words with words and with numbers.
-ghost use Rattle.std.specs.Prelude.{◌≡◌, ◌+◌, ◌*◌, ◌≤◌, ◌==◌, nat_le, ◌&&◌, length, IfOk};
+ghost use Rattle.std.specs.Prelude.{◌≡◌, ◌*◌, ◌≤◌, ◌==◌, nat_le, ◌&&◌, length};
 ghost use Rattle.std.specs.Bool.{beq};
-ghost use Rattle.bddl_model.specs.Truth.{Assignment};
-ghost use Rattle.bddl_model.specs.Circuit.{nodes_of, IsWire, holds};
-ghost use Rattle.bddl_model.specs.Growth.{Grows};
+ghost use Rattle.bddl_model.specs.Circuit.{IsWire, holds};
+ghost use Rattle.bddl_model.specs.Growth.{HasRoom, Makes};
 ghost use Rattle.bddl_model.specs.Words.{AreWires, word_value};
 
 use crate::gates::{join, same, signed};
@@ -15,10 +14,8 @@ pub fn equal(dag: &mut Dag, a: &[Wire], b: &[Wire]) -> Result<Wire, NoMemory>
     requires a { AreWires dag.old a.now }
     requires b { AreWires dag.old b.now }
     requires lengths { length a.now ≡ length b.now }
-    requires room { nodes_of dag.old + 4 * length a.now ≤ 16777215 }
-    ensures wire { IfOk result (λ w. IsWire dag.new w) }
-    ensures value { IfOk result (λ w. (v : Assignment) → holds dag.new w v ≡ (word_value dag.old a.now v == word_value dag.old b.now v)) }
-    ensures grows { Grows (4 * length a.now) dag.old dag.new }
+    requires room { HasRoom dag.old (4 * length a.now) }
+    ensures { Makes (4 * length a.now) dag.old dag.new result (λ v. word_value dag.old a.now v == word_value dag.old b.now v) }
 {
     let mut all = dag.truth();
     'bits: for i in 0..a.len() {
@@ -32,10 +29,8 @@ fn also_same(dag: &mut Dag, all: Wire, left: Wire, right: Wire) -> Result<Wire, 
     requires all { IsWire dag.old all }
     requires left { IsWire dag.old left }
     requires right { IsWire dag.old right }
-    requires room { nodes_of dag.old + 4 ≤ 16777215 }
-    ensures wire { IfOk result (λ w. IsWire dag.new w) }
-    ensures value { IfOk result (λ w. (v : Assignment) → holds dag.new w v ≡ (holds dag.old all v && beq (holds dag.old left v) (holds dag.old right v))) }
-    ensures grows { Grows 4 dag.old dag.new }
+    requires room { HasRoom dag.old 4 }
+    ensures { Makes 4 dag.old dag.new result (λ v. holds dag.old all v && beq (holds dag.old left v) (holds dag.old right v)) }
 {
     let bit = same(dag, left, right)?;
     dag.and(all, bit)
@@ -44,10 +39,8 @@ fn also_same(dag: &mut Dag, all: Wire, left: Wire, right: Wire) -> Result<Wire, 
 /// A wire that holds where a word is a number.
 pub fn equal_const(dag: &mut Dag, a: &[Wire], k: u32) -> Result<Wire, NoMemory>
     requires a { AreWires dag.old a.now }
-    requires room { nodes_of dag.old + length a.now ≤ 16777215 }
-    ensures wire { IfOk result (λ w. IsWire dag.new w) }
-    ensures value { IfOk result (λ w. (v : Assignment) → holds dag.new w v ≡ (word_value dag.old a.now v == k)) }
-    ensures grows { Grows (length a.now) dag.old dag.new }
+    requires room { HasRoom dag.old (length a.now) }
+    ensures { Makes (length a.now) dag.old dag.new result (λ v. word_value dag.old a.now v == k) }
 {
     let mut all = dag.truth();
     let mut rest = k;
@@ -66,10 +59,8 @@ pub fn equal_const(dag: &mut Dag, a: &[Wire], k: u32) -> Result<Wire, NoMemory>
 /// A wire that holds where a word is at least a number.
 pub fn at_least(dag: &mut Dag, a: &[Wire], k: u32) -> Result<Wire, NoMemory>
     requires a { AreWires dag.old a.now }
-    requires room { nodes_of dag.old + length a.now ≤ 16777215 }
-    ensures wire { IfOk result (λ w. IsWire dag.new w) }
-    ensures value { IfOk result (λ w. (v : Assignment) → holds dag.new w v ≡ nat_le k (word_value dag.old a.now v)) }
-    ensures grows { Grows (length a.now) dag.old dag.new }
+    requires room { HasRoom dag.old (length a.now) }
+    ensures { Makes (length a.now) dag.old dag.new result (λ v. nat_le k (word_value dag.old a.now v)) }
 {
     let mut reached = dag.truth();
     let mut rest = k;
@@ -88,10 +79,8 @@ pub fn at_least(dag: &mut Dag, a: &[Wire], k: u32) -> Result<Wire, NoMemory>
 pub fn at_most(dag: &mut Dag, a: &[Wire], k: u32) -> Result<Wire, NoMemory>
     requires a { AreWires dag.old a.now }
     requires short { length a.now ≤ 16 }
-    requires room { nodes_of dag.old + length a.now ≤ 16777215 }
-    ensures wire { IfOk result (λ w. IsWire dag.new w) }
-    ensures value { IfOk result (λ w. (v : Assignment) → holds dag.new w v ≡ nat_le (word_value dag.old a.now v) k) }
-    ensures grows { Grows (length a.now) dag.old dag.new }
+    requires room { HasRoom dag.old (length a.now) }
+    ensures { Makes (length a.now) dag.old dag.new result (λ v. nat_le (word_value dag.old a.now v) k) }
 {
     if k >= 65_535 {
         return Ok(dag.truth());

@@ -1,9 +1,9 @@
 // Circuits of a few gates.
-ghost use Rattle.std.specs.Prelude.{◌≡◌, ◌+◌, ◌*◌, ◌≤◌, not, ◌&&◌, ◌||◌, IfOk, if◌then◌else◌};
+ghost use Rattle.std.specs.Prelude.{◌≡◌, ◌+◌, ◌*◌, ◌&&◌, ◌||◌, IfOk, if◌then◌else◌};
 ghost use Rattle.std.specs.Bool.{beq};
 ghost use Rattle.bddl_model.specs.Truth.{Assignment};
-ghost use Rattle.bddl_model.specs.Circuit.{nodes_of, IsWire, holds};
-ghost use Rattle.bddl_model.specs.Growth.{Grows};
+ghost use Rattle.bddl_model.specs.Circuit.{IsWire, holds};
+ghost use Rattle.bddl_model.specs.Growth.{HasRoom, Grows, Makes};
 ghost use Rattle.bit_arith.specs.Digits.{digit};
 
 use bddl_model::{NoMemory, Wire};
@@ -13,10 +13,8 @@ use circuit_dag::Dag;
 pub fn or(dag: &mut Dag, left: Wire, right: Wire) -> Result<Wire, NoMemory>
     requires left { IsWire dag.old left }
     requires right { IsWire dag.old right }
-    requires room { nodes_of dag.old + 1 ≤ 16777215 }
-    ensures wire { IfOk result (λ w. IsWire dag.new w) }
-    ensures value { IfOk result (λ w. (a : Assignment) → holds dag.new w a ≡ (holds dag.old left a || holds dag.old right a)) }
-    ensures grows { Grows 1 dag.old dag.new }
+    requires room { HasRoom dag.old 1 }
+    ensures { Makes 1 dag.old dag.new result (λ a. holds dag.old left a || holds dag.old right a) }
 {
     let not_left = dag.not(left);
     let not_right = dag.not(right);
@@ -28,11 +26,9 @@ pub fn or(dag: &mut Dag, left: Wire, right: Wire) -> Result<Wire, NoMemory>
 pub fn join(dag: &mut Dag, both: bool, left: Wire, right: Wire) -> Result<Wire, NoMemory>
     requires left { IsWire dag.old left }
     requires right { IsWire dag.old right }
-    requires room { nodes_of dag.old + 1 ≤ 16777215 }
-    ensures wire { IfOk result (λ w. IsWire dag.new w) }
-    ensures value { IfOk result (λ w. (a : Assignment) → holds dag.new w a
-        ≡ (if both then holds dag.old left a && holds dag.old right a else holds dag.old left a || holds dag.old right a)) }
-    ensures grows { Grows 1 dag.old dag.new }
+    requires room { HasRoom dag.old 1 }
+    ensures { Makes 1 dag.old dag.new result (λ a.
+        if both then holds dag.old left a && holds dag.old right a else holds dag.old left a || holds dag.old right a) }
 {
     if both {
         return dag.and(left, right);
@@ -42,8 +38,7 @@ pub fn join(dag: &mut Dag, both: bool, left: Wire, right: Wire) -> Result<Wire, 
 
 /// The wire itself, or its opposite.
 pub fn signed(dag: &Dag, positive: bool, wire: Wire) -> Wire
-    requires { IsWire dag.now wire }
-    ensures wire { IsWire dag.now result }
+    ensures wire { IsWire dag.now wire → IsWire dag.now result }
     ensures value { (a : Assignment) → holds dag.now result a ≡ beq positive (holds dag.now wire a) }
 {
     if positive {
@@ -56,10 +51,8 @@ pub fn signed(dag: &Dag, positive: bool, wire: Wire) -> Wire
 pub fn same(dag: &mut Dag, left: Wire, right: Wire) -> Result<Wire, NoMemory>
     requires left { IsWire dag.old left }
     requires right { IsWire dag.old right }
-    requires room { nodes_of dag.old + 3 ≤ 16777215 }
-    ensures wire { IfOk result (λ w. IsWire dag.new w) }
-    ensures value { IfOk result (λ w. (a : Assignment) → holds dag.new w a ≡ beq (holds dag.old left a) (holds dag.old right a)) }
-    ensures grows { Grows 3 dag.old dag.new }
+    requires room { HasRoom dag.old 3 }
+    ensures { Makes 3 dag.old dag.new result (λ a. beq (holds dag.old left a) (holds dag.old right a)) }
 {
     let both = dag.and(left, right)?;
     let one_holds = or(dag, left, right)?;
@@ -72,10 +65,8 @@ pub fn choose(dag: &mut Dag, s: Wire, a: Wire, b: Wire) -> Result<Wire, NoMemory
     requires s { IsWire dag.old s }
     requires a { IsWire dag.old a }
     requires b { IsWire dag.old b }
-    requires room { nodes_of dag.old + 3 ≤ 16777215 }
-    ensures wire { IfOk result (λ w. IsWire dag.new w) }
-    ensures value { IfOk result (λ w. (v : Assignment) → holds dag.new w v ≡ (if holds dag.old s v then holds dag.old a v else holds dag.old b v)) }
-    ensures grows { Grows 3 dag.old dag.new }
+    requires room { HasRoom dag.old 3 }
+    ensures { Makes 3 dag.old dag.new result (λ v. if holds dag.old s v then holds dag.old a v else holds dag.old b v) }
 {
     let first = dag.and(s, a)?;
     let not_s = dag.not(s);
@@ -94,7 +85,7 @@ pub struct Sum {
 pub fn sum_of(dag: &mut Dag, left: Wire, right: Wire, one: bool) -> Result<Sum, NoMemory>
     requires left { IsWire dag.old left }
     requires right { IsWire dag.old right }
-    requires room { nodes_of dag.old + 3 ≤ 16777215 }
+    requires room { HasRoom dag.old 3 }
     ensures wires { IfOk result (λ s. IsWire dag.new s.digit × IsWire dag.new s.carry) }
     ensures value { IfOk result (λ s. (a : Assignment) → digit (holds dag.new s.digit a) + 2 * digit (holds dag.new s.carry a)
         ≡ digit (holds dag.old left a) + digit (holds dag.old right a) + digit one) }

@@ -1,8 +1,8 @@
 //! Words of wires, least bit first, that compute plain numbers.
 //!
-//! Each call answers wires that hold, under every assignment of the inputs, exactly what its clause
-//! `value` says of numbers. The clause `grows` says how many gates may come, also where memory is
-//! wanting. Read `Words.antt` and `Growth.antt` in `bddl_model/specs` first.
+//! Each call answers wires that hold, under every assignment of the inputs, exactly what its
+//! contract says of numbers, and says how many gates may come, also where memory is wanting: read
+//! `Words.antt` and `Growth.antt` in `bddl_model/specs` first.
 #![tactic(auto)]
 
 mod compare;

@@ -1,9 +1,8 @@
 // All and one of many wires.
-ghost use Rattle.std.specs.Prelude.{◌≡◌, ◌+◌, ◌≤◌, length, IfOk};
+ghost use Rattle.std.specs.Prelude.{length};
 ghost use Rattle.std.specs.List.{list_all, list_any};
-ghost use Rattle.bddl_model.specs.Truth.{Assignment};
-ghost use Rattle.bddl_model.specs.Circuit.{nodes_of, IsWire, holds};
-ghost use Rattle.bddl_model.specs.Growth.{Grows};
+ghost use Rattle.bddl_model.specs.Circuit.{holds};
+ghost use Rattle.bddl_model.specs.Growth.{HasRoom, Makes};
 ghost use Rattle.bddl_model.specs.Words.{AreWires};
 
 use bddl_model::{NoMemory, Wire};
@@ -12,10 +11,8 @@ use circuit_dag::Dag;
 /// A wire that holds where all of the wires do.
 pub fn all_of(dag: &mut Dag, wires: &[Wire]) -> Result<Wire, NoMemory>
     requires wires { AreWires dag.old wires.now }
-    requires room { nodes_of dag.old + length wires.now ≤ 16777215 }
-    ensures wire { IfOk result (λ w. IsWire dag.new w) }
-    ensures value { IfOk result (λ w. (a : Assignment) → holds dag.new w a ≡ list_all (λ x. holds dag.old x a) wires.now) }
-    ensures grows { Grows (length wires.now) dag.old dag.new }
+    requires room { HasRoom dag.old (length wires.now) }
+    ensures { Makes (length wires.now) dag.old dag.new result (λ a. list_all (λ x. holds dag.old x a) wires.now) }
 {
     let mut all = dag.truth();
     'wires: for wire in wires {
@@ -27,10 +24,8 @@ pub fn all_of(dag: &mut Dag, wires: &[Wire]) -> Result<Wire, NoMemory>
 /// A wire that holds where one of the wires does.
 pub fn any_of(dag: &mut Dag, wires: &[Wire]) -> Result<Wire, NoMemory>
     requires wires { AreWires dag.old wires.now }
-    requires room { nodes_of dag.old + length wires.now ≤ 16777215 }
-    ensures wire { IfOk result (λ w. IsWire dag.new w) }
-    ensures value { IfOk result (λ w. (a : Assignment) → holds dag.new w a ≡ list_any (λ x. holds dag.old x a) wires.now) }
-    ensures grows { Grows (length wires.now) dag.old dag.new }
+    requires room { HasRoom dag.old (length wires.now) }
+    ensures { Makes (length wires.now) dag.old dag.new result (λ a. list_any (λ x. holds dag.old x a) wires.now) }
 {
     let mut none = dag.truth();
     'wires: for wire in wires {

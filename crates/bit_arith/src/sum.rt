@@ -2,8 +2,8 @@
 ghost use Rattle.std.specs.Prelude.{◌≡◌, ◌+◌, ◌*◌, ◌^◌, ◌%◌, ◌≤◌, false, get_or, length, IfOk, pos, negsuc, ◌+ℤ◌, ◌≤ℤ◌};
 ghost use Rattle.std.specs.Int.{int_rem_euclid};
 ghost use Rattle.bddl_model.specs.Truth.{Assignment};
-ghost use Rattle.bddl_model.specs.Circuit.{nodes_of, IsWire, holds};
-ghost use Rattle.bddl_model.specs.Growth.{Grows};
+ghost use Rattle.bddl_model.specs.Circuit.{IsWire, holds};
+ghost use Rattle.bddl_model.specs.Growth.{HasRoom, Grows};
 ghost use Rattle.bddl_model.specs.Words.{AreWires, word_bits, word_value};
 
 use crate::gates::sum_of;
@@ -29,7 +29,7 @@ fn add(alloc: Global, dag: &mut Dag, a: &[Wire], k: u32, width: u32) -> Result<V
     requires a { AreWires dag.old a.now }
     requires width { width ≤ 16 }
     requires fits { length a.now ≤ width }
-    requires room { nodes_of dag.old + 3 * width ≤ 16777215 }
+    requires room { HasRoom dag.old (3 * width) }
     ensures wires { IfOk result (λ ws. AreWires dag.new ws.items) }
     ensures length { IfOk result (λ ws. length ws.items ≡ width) }
     ensures value { IfOk result (λ ws. (v : Assignment) → word_value dag.new ws.items v ≡ (word_value dag.old a.now v + k) % 2 ^ width) }
@@ -61,7 +61,7 @@ pub fn add_const(
     requires width { (1 ≤ width) × (width ≤ 16) }
     requires fits { length a.now ≤ width }
     requires number { (negsuc 32767 ≤ℤ k) × (k ≤ℤ pos 32767) }
-    requires room { nodes_of dag.old + 4 * width ≤ 16777215 }
+    requires room { HasRoom dag.old (4 * width) }
     ensures wires { IfOk result (λ ws. AreWires dag.new ws.items) }
     ensures length { IfOk result (λ ws. length ws.items ≡ width) }
     ensures value { IfOk result (λ ws. (v : Assignment) → pos (word_value dag.new ws.items v) ≡ int_rem_euclid (pos (word_value dag.old a.now v) +ℤ k) (pos (2 ^ width))) }

@@ -12,9 +12,10 @@ use Rattle.bddl_model.specs.declared.circuit.Wire.{Wire}
 use Rattle.bddl_model.specs.declared.circuit.Gate.{Gate}
 use Rattle.bddl_model.specs.Truth.{Assignment}
 use Rattle.bddl_model.specs.Circuit.{Circuit, Ordered, nodes_of, IsWire, holds}
-use Rattle.bddl_model.specs.Growth.{Grows}
-use Rattle.bddl_model.proofs.Growth.{Joins, joined_held, joined_ordered, grows_by}
+use Rattle.bddl_model.specs.Forms.{greatest_variables}
+use Rattle.bddl_model.specs.Growth.{HasRoom, Grows}
 use Rattle.circuit_dag.specs.Gates.{needs_gate, gate_of, gate_at, IsShared}
+use Rattle.circuit_dag.proofs.Appended.{Joins, joined_held, joined_ordered, grows_by}
 use Rattle.circuit_dag.proofs.Standing.{standing_held}
 use Rattle.circuit_dag.proofs.Places.{same_gate, same_gate-decides, standing_found, one_place, at_place, at_node, joins}
 
@@ -50,7 +51,7 @@ pub record AfterGate (c : Circuit) (v w : Wire) (gates : List Gate) (i : ℕ) : 
   pub known : (n : ℕ) → gate_at c n ≡ Some (gate_of v w) → (suc c.inputs + i ≡ n) × (gates ≡ c.gates)
   pub fresh : ((n : ℕ) → gate_at c n ≢ Some (gate_of v w)) → (i ≡ length c.gates) × (gates ≡ c.gates ++ gate_of v w ∷ [])
 
-module _ (c : Circuit) (v w : Wire) (gates : List Gate) (i : ℕ) (needs : needs_gate v w ≡ true) (shared : IsShared c) (iv : IsWire c v) (iw : IsWire c w) (room : nodes_of c < 16777215) (apart : IsDistinct same_gate gates) where
+module _ (c : Circuit) (v w : Wire) (gates : List Gate) (i : ℕ) (needs : needs_gate v w ≡ true) (shared : IsShared c) (iv : IsWire c v) (iw : IsWire c w) (room : HasRoom c 1) (apart : IsDistinct same_gate gates) where
   abbrev g : Gate
   g = gate_of v w
 
@@ -60,7 +61,7 @@ module _ (c : Circuit) (v w : Wire) (gates : List Gate) (i : ℕ) (needs : needs
   abbrev new : Circuit
   new = record { inputs = c.inputs; gates = gates }
 
-  within : Grows 1 c new → nodes_of new ≤ 16777215
+  within : Grows 1 c new → nodes_of new ≤ greatest_variables
   within grows = omega (arith, grows.room, room)
 
   pub after_gate : Inserted c.gates g gates i → AfterGate c v w gates i

@@ -1,3 +1,5 @@
+pub mod Appended
+pub mod WithoutGate
 pub mod Standing
 pub mod Places
 pub mod Inserted

@@ -11,8 +11,8 @@ use Rattle.std.proofs.lemmas.List.Folds.{list_any_at}
 use Rattle.bddl_model.specs.declared.circuit.Wire.{Wire}
 use Rattle.bddl_model.specs.declared.circuit.Gate.{Gate}
 use Rattle.bddl_model.specs.Circuit.{Circuit}
-use Rattle.bddl_model.proofs.Growth.{Joins}
 use Rattle.circuit_dag.specs.Gates.{needs_gate, gate_of, gate_at, IsShared}
+use Rattle.circuit_dag.proofs.Appended.{Joins}
 use Rattle.circuit_dag.proofs.Standing.{parted}
 
 -- ---- equality of gates

@@ -5,7 +5,7 @@ use Rattle.bddl_model.specs.declared.circuit.Gate.{Gate}
 use Rattle.bddl_model.specs.Truth.{Assignment}
 use Rattle.bddl_model.specs.Circuit.{Circuit, Ordered, IsCircuit, holds}
 use Rattle.bddl_model.specs.Growth.{Grows}
-use Rattle.bddl_model.proofs.Growth.{grows_by, joined_held}
+use Rattle.circuit_dag.proofs.Appended.{grows_by, joined_held}
 
 -- the gates before it and those behind it; its operands are earlier nodes
 pub record Parted (gates : List Gate) (i n : ℕ) (g : Gate) : Type 0 where

@@ -4,6 +4,7 @@ use Rattle.bddl_model.specs.declared.circuit.Wire.{Wire}
 use Rattle.bddl_model.specs.declared.circuit.Gate.{Gate}
 use Rattle.bddl_model.specs.declared.memory.NoMemory.{NoMemory}
 use Rattle.bddl_model.specs.Circuit.{Circuit, IsCircuit, nodes_of}
+use Rattle.bddl_model.specs.Forms.{greatest_variables}
 
 -- whether "both hold" takes a gate: neither wire is of node 0, and they are of two nodes
 abbrev pub needs_gate : Wire → Wire → Bool
@@ -30,7 +31,7 @@ with_gate c g = record c { gates = c.gates ++ g ∷ [] }
 -- within the limits, each gate over two earlier nodes other than node 0, and no gate twice
 pub record IsShared (c : Circuit) : Type 0 where
   pub inputs : c.inputs ≤ 65535
-  pub nodes : nodes_of c ≤ 16777215
+  pub nodes : nodes_of c ≤ greatest_variables
   pub order : IsCircuit c
   pub proper : All (λ g. 1 ≤ g.left.node.0) c.gates
   pub apart : AllPairs (λ g h. g ≢ h) c.gates

@@ -2,7 +2,8 @@
 ghost use Rattle.std.specs.Prelude.{◌≡◌, ◌≢◌, ◌<◌, ◌≤◌, ◌↔◌, true, not, ◌&&◌, [], All, AllPairs, option_map, IsSome, IfSome, IfOk, OnErr};
 ghost use Rattle.bddl_model.specs.Truth.{Assignment};
 ghost use Rattle.bddl_model.specs.Circuit.{IsCircuit, nodes_of, IsWire, holds};
-ghost use Rattle.bddl_model.specs.Growth.{Grows};
+ghost use Rattle.bddl_model.specs.Forms.{greatest_variables};
+ghost use Rattle.bddl_model.specs.Growth.{HasRoom, Makes};
 ghost use Rattle.circuit_dag.specs.Gates as spec;
 
 use crate::gates::{gate_of, without_gate};
@@ -49,7 +50,7 @@ impl Dag {
     /// them is node 0. The inputs and the nodes keep to their limits.
     pub fn keeps_its_order(&self)
         ensures inputs { self.now.inputs ≤ 65535 }
-        ensures nodes { nodes_of self.now ≤ 16777215 }
+        ensures nodes { nodes_of self.now ≤ greatest_variables }
         ensures order { IsCircuit self.now }
         ensures proper { All (λ g. 1 ≤ g.left.node.0) self.now.gates }
     {
@@ -101,8 +102,7 @@ impl Dag {
 
     /// The opposite of a wire.
     pub fn not(&self, wire: Wire) -> Wire
-        requires { IsWire self.now wire }
-        ensures wire { IsWire self.now result }
+        ensures wire { IsWire self.now wire → IsWire self.now result }
         ensures value { (a : Assignment) → holds self.now result a ≡ not (holds self.now wire a) }
     {
         Wire {
@@ -130,10 +130,8 @@ impl Dag {
     pub fn and(&mut self, left: Wire, right: Wire) -> Result<Wire, NoMemory>
         requires left { IsWire self.old left }
         requires right { IsWire self.old right }
-        requires room { nodes_of self.old < 16777215 }
-        ensures wire { IfOk result (λ w. IsWire self.new w) }
-        ensures value { IfOk result (λ w. (a : Assignment) → holds self.new w a ≡ (holds self.old left a && holds self.old right a)) }
-        ensures grows { Grows 1 self.old self.new }
+        requires room { HasRoom self.old 1 }
+        ensures made { Makes 1 self.old self.new result (λ a. holds self.old left a && holds self.old right a) }
         ensures err { OnErr result (self.new ≡ self.old) }
         ensures shared { spec.Shares self.old left right result self.new }
     {
@@ -150,76 +148,4 @@ impl Dag {
 }
 
 #[cfg(test)]
-mod tests {
-    use super::*;
-    use std::test::Fail;
-
-    fn node(number: u32) -> Wire {
-        Wire {
-            node: NodeId(number),
-            negated: false,
-        }
-    }
-
-    fn not_node(number: u32) -> Wire {
-        Wire {
-            node: NodeId(number),
-            negated: true,
-        }
-    }
-
-    #[test]
-    fn a_pair_has_one_gate_in_either_order(rt: HostRuntime) -> Result<(), Fail> {
-        let mut dag = Dag::new(rt.alloc(), 2)?;
-        let (first, second) = (dag.input(1), dag.input(2));
-        assert_eq!(rt; dag.and(first, second)?, node(3));
-        assert_eq!(rt; dag.and(second, first)?, node(3));
-        assert_eq!(rt; dag.and(first, second)?, node(3));
-        assert_eq!(rt; dag.len(), 4);
-        Ok(())
-    }
-
-    #[test]
-    fn a_node_with_itself_and_with_truth_makes_no_gate(rt: HostRuntime) -> Result<(), Fail> {
-        let (never, truth) = (not_node(0), node(0));
-        let (not_one, one) = (not_node(1), node(1));
-        for (left, right, both) in [
-            (one, one, one),
-            (one, not_one, never),
-            (not_one, one, never),
-            (truth, one, one),
-            (one, truth, one),
-            (never, one, never),
-            (one, never, never),
-        ] {
-            assert!(rt; left.node.0 <= 1 && right.node.0 <= 1);
-            let mut dag = Dag::new(rt.alloc(), 1)?;
-            assert_eq!(rt; dag.and(left, right)?, both);
-            assert_eq!(rt; dag.len(), 2);
-        }
-        Ok(())
-    }
-
-    #[test]
-    fn a_gate_has_its_operands_in_order(rt: HostRuntime) -> Result<(), Fail> {
-        let mut dag = Dag::new(rt.alloc(), 2)?;
-        let no_second = dag.not(dag.input(2));
-        let both = dag.and(no_second, dag.input(1))?;
-        assert_eq!(rt; both, node(3));
-        assert_eq!(rt; dag.gate(both.node), Some((node(1), not_node(2))));
-        for number in [0, 1, 2, 4, 5, u32::MAX] {
-            assert_eq!(rt; dag.gate(NodeId(number)), None);
-        }
-        Ok(())
-    }
-
-    #[test]
-    fn without_inputs_there_is_truth_alone(rt: HostRuntime) -> Result<(), Fail> {
-        let mut dag = Dag::new(rt.alloc(), 0)?;
-        let truth = dag.truth();
-        assert_eq!(rt; dag.and(truth, truth)?, truth);
-        assert_eq!(rt; (dag.inputs(), dag.len()), (0, 1));
-        assert_eq!(rt; dag.gate(NodeId(1)), None);
-        Ok(())
-    }
-}
+mod tests;

@@ -4,7 +4,7 @@ use Rattle.std.proofs.lemmas.List.{map_push}
 use Rattle.std.proofs.lemmas.List.Elements.{All-push}
 use Rattle.bddl_model.specs.declared.game.Atom.{Atom}
 use Rattle.bddl_model.specs.declared.game.Rect.{Rect}
-use Rattle.bddl_model.specs.Game.{Action}
+use Rattle.bddl_model.specs.Game.{Action, action_atoms, line_atoms}
 use Rattle.bddl_model.specs.Limits.{IsAction, IsLine, AreItems, IsGame}
 use Rattle.bddl_model.specs.Rectangle.{IsRectOf}
 use Rattle.grid_game.specs.declared.items.StoredAction.{StoredAction}
@@ -25,7 +25,7 @@ same_kept width height old new kept actions lines = record {
 }
 
 abbrev HasRect : ℕ → ℕ → StoredAction → Type 0
-HasRect width height a = IsRectOf width height (a.before.items ++ a.effects.items) a.rect
+HasRect width height a = IsRectOf width height (action_atoms (action_of a)) a.rect
 
 more_actions : (width height : ℕ) (old new : Items) (action : StoredAction) → Kept width height old
     → length (actions_of old) < 8 → IsAction width height (action_of action) → HasRect width height action
@@ -45,18 +45,17 @@ more_actions width height old new action kept few is rect actions lines = record
 
 -- an action that is stored for the one that was given
 pub action_kept : (width height : ℕ) (old new : Items) (stored : StoredAction) (given : Action) (rect : Rect) (added : Bool) → Kept width height old
-    → length (actions_of old) < 8 → IsAction width height given → IsRectOf width height (given.before ++ given.effects) rect → action_of stored ≡ given → stored.rect ≡ rect
+    → length (actions_of old) < 8 → IsAction width height given → IsRectOf width height (action_atoms given) rect → action_of stored ≡ given → stored.rect ≡ rect
     → new.actions.items ≡ (if added then old.actions.items ++ stored ∷ [] else old.actions.items) → new.lines.items ≡ old.lines.items → Kept width height new
 action_kept width height old new stored given rect false kept few is exact same same_rect actions lines = same_kept width height old new kept actions lines
 action_kept width height old new stored given rect true kept few is exact same same_rect actions lines =
-    let fits_stored = λ (a : Action). IsRectOf width height (a.before ++ a.effects) stored.rect in
-    more_actions width height old new stored kept few (rw same is) (subst fits_stored (sym same) (rw same_rect exact)) actions lines
+    more_actions width height old new stored kept few (rw same is) (subst (λ (a : Action). IsRectOf width height (action_atoms a) stored.rect) (sym same) (rw same_rect exact)) actions lines
 
 abbrev atoms_of : StoredLine → List Atom
 atoms_of line = line.atoms.items
 
 more_lines : (width height : ℕ) (old new : Items) (line : StoredLine) → Kept width height old
-    → length (lines_of old) < 256 → IsLine width height (atoms_of line) → IsRectOf width height (atoms_of line) line.rect
+    → length (lines_of old) < 256 → IsLine width height (atoms_of line) → IsRectOf width height (line_atoms (atoms_of line)) line.rect
     → new.lines.items ≡ old.lines.items ++ line ∷ [] → new.actions.items ≡ old.actions.items → Kept width height new
 more_lines width height old new line kept few is rect lines actions = record {
   limits = rw (actions, lines, map_push atoms_of old.lines.items line) (record {
@@ -67,13 +66,13 @@ more_lines width height old new line kept few is rect lines actions = record {
   });
   rects = record {
     actions = rw actions kept.rects.actions;
-    lines = rw lines (All-push (λ (l : StoredLine). IsRectOf width height (atoms_of l) l.rect) old.lines.items line kept.rects.lines rect);
+    lines = rw lines (All-push (λ (l : StoredLine). IsRectOf width height (line_atoms (atoms_of l)) l.rect) old.lines.items line kept.rects.lines rect);
   };
 }
 
 -- a line that is stored for the one that was given
 pub line_kept : (width height : ℕ) (old new : Items) (stored : StoredLine) (given : List Atom) (rect : Rect) (added : Bool) → Kept width height old
-    → length (lines_of old) < 256 → IsLine width height given → IsRectOf width height given rect → atoms_of stored ≡ given → stored.rect ≡ rect
+    → length (lines_of old) < 256 → IsLine width height given → IsRectOf width height (line_atoms given) rect → atoms_of stored ≡ given → stored.rect ≡ rect
     → new.lines.items ≡ (if added then old.lines.items ++ stored ∷ [] else old.lines.items) → new.actions.items ≡ old.actions.items → Kept width height new
 line_kept width height old new stored given rect false kept few is exact same same_rect lines actions = same_kept width height old new kept actions lines
 line_kept width height old new stored given rect true kept few is exact same same_rect lines actions =
@@ -84,16 +83,13 @@ line_kept width height old new stored given rect true kept few is exact same sam
 abbrev pub GameKept : ℕ → ℕ → Items → Items → Type 0
 GameKept width height black white = IsGame (game_of width height black white) × KeepsRects width height black × KeepsRects width height white
 
-pub black_kept : (width height : ℕ) (black white : Items) → GameKept width height black white → Kept width height black
-black_kept width height black white kept = record { limits = kept.0.black; rects = kept.1 }
-
-pub white_kept : (width height : ℕ) (black white : Items) → GameKept width height black white → Kept width height white
-white_kept width height black white kept = record { limits = kept.0.white; rects = kept.2 }
-
-pub with_black : (width height : ℕ) (black white new : Items) → GameKept width height black white → Kept width height new → GameKept width height new white
-with_black width height black white new kept side =
+-- one of them gets an item more
+pub black_grows : (width height : ℕ) (black white new : Items) → GameKept width height black white → (Kept width height black → Kept width height new) → GameKept width height new white
+black_grows width height black white new kept more =
+    let side = more (record { limits = kept.0.black; rects = kept.1 }) in
     (record { width = kept.0.width; height = kept.0.height; black = side.limits; white = kept.0.white }, side.rects, kept.2)
 
-pub with_white : (width height : ℕ) (black white new : Items) → GameKept width height black white → Kept width height new → GameKept width height black new
-with_white width height black white new kept side =
+pub white_grows : (width height : ℕ) (black white new : Items) → GameKept width height black white → (Kept width height white → Kept width height new) → GameKept width height black new
+white_grows width height black white new kept more =
+    let side = more (record { limits = kept.0.white; rects = kept.2 }) in
     (record { width = kept.0.width; height = kept.0.height; black = kept.0.black; white = side.limits }, kept.1, side.rects)

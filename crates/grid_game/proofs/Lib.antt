@@ -1,3 +1,4 @@
+pub mod Rectangle
 pub mod KeptItems
 pub mod Cells
 pub mod Actions

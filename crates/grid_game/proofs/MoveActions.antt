@@ -5,7 +5,7 @@ use Rattle.std.proofs.Math.Nat.{mul-le-mul}
 use Rattle.std.proofs.lemmas.List.Elements.{filter-append}
 use Rattle.std.proofs.lemmas.List.FromFn.{length-map-range_with_len}
 use Rattle.bddl_model.specs.declared.game.Move.{Move}
-use Rattle.bddl_model.specs.Game.{Game}
+use Rattle.bddl_model.specs.Game.{Game, greatest_side}
 use Rattle.grid_game.specs.Listed.{move_at, row_moves, action_moves, actions_moves}
 use Rattle.grid_game.proofs.MoveRanges.{few_pass}
 
@@ -32,19 +32,9 @@ pub action_is_short : (p : Move → Bool) (g : Game) (action y n : ℕ) (done : 
 action_is_short p g action y n done =
     omega (arith, length-append done (filter p (action_moves g action y n)), few_pass p (action_moves g action y n), length-action_moves g action y n)
 
-pub first_action_has_room : (had actions width height room : ℕ) → 1 ≤ actions → had + actions * width * height ≤ room → had + width * height ≤ room
-first_action_has_room had zero width height room some h = absurd (omega arith)
-first_action_has_room had (suc left) width height room some h =
-    let all : suc left * width * height ≡ width * height + left * width * height = grind arith in
-    omega arith
-
-pub other_actions_have_room : (had has actions left width height room : ℕ) → actions ≡ suc left → has ≤ had + height * width → had + actions * width * height ≤ room → has + left * width * height ≤ room
-other_actions_have_room had has actions left width height room more grown h =
-    let all : suc left * width * height ≡ height * width + left * width * height = grind arith in
-    omega (arith, ap (λ n. n * width * height) more)
-
--- eight actions on sixteen by sixteen
-pub few_moves : (actions width height : ℕ) → actions ≤ 8 → width ≤ 16 → height ≤ 16 → (actions * width ≤ 128) × (actions * width * height ≤ 2048)
+-- eight actions on the greatest board
+pub few_moves : (actions width height : ℕ) → actions ≤ 8 → width ≤ greatest_side → height ≤ greatest_side
+    → (actions * width ≤ 8 * greatest_side) × (actions * width * height ≤ 8 * greatest_side * greatest_side)
 few_moves actions width height few narrow low =
-    let row : actions * width ≤ 128 = mul-le-mul few narrow in
+    let row : actions * width ≤ 8 * greatest_side = mul-le-mul few narrow in
     (row, mul-le-mul row low)

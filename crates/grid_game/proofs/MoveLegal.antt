@@ -1,5 +1,5 @@
 -- The legal moves of an action are those of its rectangle whose preconditions hold.
-use Rattle.std.proofs.Common.{◌≡◌, ℕ, ◌+◌, ◌-◌, ◌≤◌, ◌<◌, Bool, true, false, cond, List, [], ◌∷◌, ◌++◌, length, sym, ap, ◌∙◌, arith}
+use Rattle.std.proofs.Common.{◌≡◌, ℕ, ◌+◌, ◌-◌, ◌≤◌, ◌<◌, Bool, true, false, cond, List, [], ◌∷◌, length, sym, ap, ◌∙◌, arith}
 use Rattle.std.specs.Prelude.{filter, flat_map, ◌&&◌, slice_get, Some}
 use Rattle.std.specs.List.{list_all, range_with_len}
 use Rattle.std.proofs.lemmas.Bool.{and_left, and_right, lt-leb}
@@ -7,7 +7,7 @@ use Rattle.std.proofs.lemmas.Option.{slice_get-get_or}
 use Rattle.bddl_model.specs.declared.game.Side.{Side}
 use Rattle.bddl_model.specs.declared.game.Move.{Move}
 use Rattle.bddl_model.specs.declared.game.Rect.{Rect}
-use Rattle.bddl_model.specs.Game.{Game, Action, actions, action_at}
+use Rattle.bddl_model.specs.Game.{Game, Action, action_atoms, actions, action_at}
 use Rattle.bddl_model.specs.Board.{Board, SizedBoard}
 use Rattle.bddl_model.specs.Fitting.{has_mark}
 use Rattle.bddl_model.specs.Rectangle.{in_rect, IsRectOf}
@@ -19,9 +19,9 @@ use Rattle.grid_game.proofs.MoveAnchors.{anchor_inside, rect_on_board}
 -- the side's action of this number is this one, and this is its rectangle
 pub record ActsIn (g : Game) (side : Side) (action : ℕ) (a : Action) (r : Rect) : Type 0 where
   pub is : slice_get (actions g side) action ≡ Some a
-  pub rect : IsRectOf g.width g.height (a.before ++ a.effects) r
+  pub rect : IsRectOf g.width g.height (action_atoms a) r
 
-pub acts_in : (g : Game) (side : Side) (action : ℕ) (r : Rect) → action < length (actions g side) → (let a = action_at g side action in IsRectOf g.width g.height (a.before ++ a.effects) r) → ActsIn g side action (action_at g side action) r
+pub acts_in : (g : Game) (side : Side) (action : ℕ) (r : Rect) → action < length (actions g side) → IsRectOf g.width g.height (action_atoms (action_at g side action)) r → ActsIn g side action (action_at g side action) r
 acts_in g side action r has rect = record { is = slice_get-get_or (actions g side) action _ has; rect = rect }
 
 -- ---- at one anchor
@@ -59,7 +59,7 @@ pub legal_row : (g : Game) (b : SizedBoard) (side : Side) (action y : ℕ) (a : 
     → filter (legal g b.marks side) (row_moves action y 1 g.width) ≡ filter (marks_stand b a.before) (row_moves action y r.x_low (r.x_high + 1 - r.x_low))
 legal_row g b side action y a r size acts top bottom =
     let p = legal g b.marks side in
-    let on = rect_on_board g.width g.height (a.before ++ a.effects) r acts.rect in
+    let on = rect_on_board g.width g.height (action_atoms a) r acts.rect in
     row_kept p action y 1 g.width
     ∙ within_range (kept p action y) r.x_low r.x_high g.width on.x_low acts.rect.columns on.x_high
     (λ x before. kept_nothing p action y x (nothing_outside g b.marks side action x y a r acts (and_left _ _ (and_left _ _ (lt-leb _ _ before)))))
@@ -81,7 +81,7 @@ pub legal_rows : (g : Game) (board : Board) (side : Side) (action : ℕ) (a : Ac
 legal_rows g board side action a r acts =
     let p = legal g board side in
     let row = λ (y : ℕ). row_moves action y 1 g.width in
-    let on = rect_on_board g.width g.height (a.before ++ a.effects) r acts.rect in
+    let on = rect_on_board g.width g.height (action_atoms a) r acts.rect in
     filter-flat_map p row (range_with_len 1 g.height)
     ∙ within_range (λ y. filter p (row y)) r.y_low r.y_high g.height on.y_low acts.rect.rows on.y_high
     (λ y above. nothing_in_row g board side action y a r acts (λ x. and_right _ _ (and_left _ _ (lt-leb _ _ above))))

@@ -1,5 +1,5 @@
 -- Walks over a range of numbers that give nothing outside of a part of it.
-use Rattle.std.proofs.Common.{◌≡◌, ℕ, zero, suc, ◌+◌, ◌-◌, ◌≤◌, ◌<◌, Bool, true, false, cond, List, [], ◌∷◌, ◌++◌, map, length, refl, ap, ap₂, ◌∙◌, arith}
+use Rattle.std.proofs.Common.{◌≡◌, ℕ, zero, suc, ◌+◌, ◌-◌, ◌*◌, ◌≤◌, ◌<◌, Bool, true, false, cond, List, [], ◌∷◌, ◌++◌, map, length, refl, ap, ap₂, ◌∙◌, arith}
 use Rattle.std.specs.Prelude.{filter, flat_map}
 use Rattle.std.specs.List.{range_with_len}
 use Rattle.std.proofs.lemmas.List.{append-nil}
@@ -63,3 +63,12 @@ few_pass p (x ∷ xs) = one (p x) (few_pass p xs)
     one : (b : Bool) → length (filter p xs) ≤ length xs → length (cond b (x ∷ filter p xs) (filter p xs)) ≤ length (x ∷ xs)
     one true le = omega arith
     one false le = omega arith
+
+-- ---- room for so many parts, each of so many
+
+pub first_has_room : (had parts each room : ℕ) → 1 ≤ parts → had + parts * each ≤ room → had + each ≤ room
+first_has_room had zero each room some h = absurd (omega (arith, some))
+first_has_room had (suc left) each room some h = omega (arith, h)
+
+pub others_have_room : (had has parts left each room : ℕ) → parts ≡ suc left → has ≤ had + each → had + parts * each ≤ room → has + left * each ≤ room
+others_have_room had has parts left each room more grown h = omega (arith, ap (λ n. n * each) more, grown, h)

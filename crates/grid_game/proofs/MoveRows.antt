@@ -1,5 +1,5 @@
 -- One column more of a row, one row more of an action, and room for both.
-use Rattle.std.proofs.Common.{◌≡◌, ℕ, zero, suc, ◌+◌, ◌-◌, ◌*◌, ◌≤◌, Bool, true, false, List, [], ◌∷◌, ◌++◌, length, refl, sym, ap, ◌∙◌, append_assoc, length-append, arith}
+use Rattle.std.proofs.Common.{◌≡◌, ℕ, suc, ◌+◌, ◌-◌, ◌≤◌, Bool, true, false, List, [], ◌∷◌, ◌++◌, length, refl, sym, ap, ◌∙◌, append_assoc, length-append, arith}
 use Rattle.std.specs.Prelude.{filter}
 use Rattle.std.proofs.lemmas.List.Elements.{filter-append}
 use Rattle.std.proofs.lemmas.List.FromFn.{length-map-range_with_len}
@@ -48,13 +48,3 @@ pub row_is_short : (p : Move → Bool) (action y x n : ℕ) (done : List Move) �
 row_is_short p action y x n done =
     let all : length (row_moves action y x n) ≡ n = length-map-range_with_len (move_at action y) x n in
     omega (arith, length-append done (filter p (row_moves action y x n)), few_pass p (row_moves action y x n))
-
-pub first_row_has_room : (had rows width low high room : ℕ) → 1 ≤ low → high ≤ width → 1 ≤ rows → had + rows * width ≤ room → had + (high + 1 - low) ≤ room
-first_row_has_room had zero width low high room start end some h = absurd (omega arith)
-first_row_has_room had (suc rows) width low high room start end some h = let short : high + 1 - low ≤ width = omega arith in omega arith
-
-pub other_rows_have_room : (had has rows left width low high room : ℕ) → 1 ≤ low → high ≤ width → rows ≡ suc left → has ≤ had + (high + 1 - low) → had + rows * width ≤ room → has + left * width ≤ room
-other_rows_have_room had has rows left width low high room start end more grown h =
-    let short : high + 1 - low ≤ width = omega arith in
-    let all : suc left * width ≡ width + left * width = omega arith in
-    omega (arith, ap (λ n. n * width) more)

@@ -1,6 +1,7 @@
 // Boards.
 ghost use Rattle.std.specs.Prelude.{◌≡◌, ◌≤◌, ◌<◌, ◌*◌, true, IfOk};
 ghost use Rattle.bddl_model.specs.Board as spec;
+ghost use Rattle.bddl_model.specs.Game.{greatest_side};
 ghost use Rattle.bddl_model.specs.Fitting.{on_side};
 ghost use Rattle.bddl_model.specs.Limits.{IsSide, IsBoard};
 
@@ -29,7 +30,7 @@ impl Model for Board {
 
 // Where a cell stands in the list.
 fn index(width: u32, height: u32, x: u32, y: u32) -> usize
-    requires sides { (width ≤ 16) × (height ≤ 16) }
+    requires sides { (width ≤ greatest_side) × (height ≤ greatest_side) }
     requires column { on_side width x ≡ true }
     requires row { on_side height y ≡ true }
     ensures place { result ≡ spec.index width x y }

@@ -1,7 +1,7 @@
 // A game that is within the limits.
-ghost use Rattle.std.specs.Prelude.{◌≡◌, ◌++◌, ◌<◌, ◌≤◌, [], length, IfOk, OnOk, OnErr};
+ghost use Rattle.std.specs.Prelude.{◌≡◌, ◌++◌, ◌<◌, [], length, OnOk, OnErr};
 ghost use Rattle.bddl_model.specs.Game as spec;
-ghost use Rattle.bddl_model.specs.Limits.{IsSide, IsAction, IsLine, AreItems, IsGame};
+ghost use Rattle.bddl_model.specs.Limits.{IsSide, FitsSomewhere, IsAction, IsLine, AreItems, IsGame};
 ghost use Rattle.bddl_model.specs.Rectangle.{IsRectOf};
 ghost use Rattle.grid_game.specs.Stored.{action_of, actions_of, lines_of, KeepsRects};
 
@@ -60,6 +60,17 @@ impl Game {
         let _ = &self.width;
     }
 
+    // The anchors that fit the atoms of both lists, of which there are some.
+    fn anchors(&self, first: &[Atom], second: &[Atom]) -> Rect
+        requires { FitsSomewhere self.now.width self.now.height (first.now ++ second.now) }
+        ensures { IsRectOf self.now.width self.now.height (first.now ++ second.now) result }
+    {
+        let Some(rect) = rect_of(self.width, self.height, first, second) else {
+            unreachable!()
+        };
+        rect
+    }
+
     /// Adds an action behind those of the side, or leaves the game as it was.
     pub fn add_action(
         &mut self,
@@ -73,9 +84,7 @@ impl Game {
         ensures ok { OnOk result (self.new ≡ spec.with_action self.old side (record { name = name.now; before = before.now; effects = effects.now })) }
         ensures err { OnErr result (self.new ≡ self.old) }
     {
-        let Some(rect) = rect_of(self.width, self.height, before, effects) else {
-            unreachable!()
-        };
+        let rect = self.anchors(before, effects);
         let action = StoredAction::copied(self.alloc, name, before, effects, rect)?;
         match side {
             Side::Black => self.black.push_action(action),
@@ -90,9 +99,7 @@ impl Game {
         ensures ok { OnOk result (self.new ≡ spec.with_line self.old side atoms.now) }
         ensures err { OnErr result (self.new ≡ self.old) }
     {
-        let Some(rect) = rect_of(self.width, self.height, atoms, &[]) else {
-            unreachable!()
-        };
+        let rect = self.anchors(atoms, &[]);
         let line = StoredLine::copied(self.alloc, atoms, rect)?;
         match side {
             Side::Black => self.black.push_line(line),
@@ -131,7 +138,7 @@ impl Game {
     fn stored_action(&self, side: Side, number: u32) -> &StoredAction
         requires { number < length (spec.actions self.now side) }
         ensures action { action_of result.now ≡ spec.action_at self.now side number }
-        ensures rect { IsRectOf self.now.width self.now.height (result.now.before.items ++ result.now.effects.items) result.now.rect }
+        ensures rect { IsRectOf self.now.width self.now.height (spec.action_atoms (action_of result.now)) result.now.rect }
     {
         &self.items(side).actions[number as usize]
     }
@@ -140,7 +147,7 @@ impl Game {
     fn stored_line(&self, side: Side, number: u32) -> &StoredLine
         requires { number < length (spec.lines self.now side) }
         ensures line { result.now.atoms.items ≡ spec.line_at self.now side number }
-        ensures rect { IsRectOf self.now.width self.now.height result.now.atoms.items result.now.rect }
+        ensures rect { IsRectOf self.now.width self.now.height (spec.line_atoms result.now.atoms.items) result.now.rect }
     {
         &self.items(side).lines[number as usize]
     }
@@ -179,7 +186,7 @@ impl Game {
     /// The anchors that fit an action.
     pub fn action_rect(&self, side: Side, action: u32) -> Rect
         requires { action < length (spec.actions self.now side) }
-        ensures { let a = spec.action_at self.now side action in IsRectOf self.now.width self.now.height (a.before ++ a.effects) result }
+        ensures { IsRectOf self.now.width self.now.height (spec.action_atoms (spec.action_at self.now side action)) result }
     {
         self.stored_action(side, action).rect
     }
@@ -202,128 +209,8 @@ impl Game {
     /// The anchors that fit a goal line.
     pub fn line_rect(&self, side: Side, number: u32) -> Rect
         requires { number < length (spec.lines self.now side) }
-        ensures { IsRectOf self.now.width self.now.height (spec.line_at self.now side number) result }
+        ensures { IsRectOf self.now.width self.now.height (spec.line_atoms (spec.line_at self.now side number)) result }
     {
         self.stored_line(side, number).rect
-    }
-}
-
-#[cfg(test)]
-mod tests {
-    use super::*;
-    use bddl_model::{Mark, Term};
-    use std::test::Fail;
-
-    fn here(mark: Mark) -> Atom {
-        Atom {
-            mark,
-            x: Term::Rel(0),
-            y: Term::Rel(0),
-        }
-    }
-
-    fn right(mark: Mark) -> Atom {
-        Atom {
-            mark,
-            x: Term::Rel(1),
-            y: Term::Rel(0),
-        }
-    }
-
-    // Adds the action, of which an anchor is to fit.
-    fn add_action(
-        game: &mut Game,
-        side: Side,
-        name: &[u8],
-        before: &[Atom],
-        effects: &[Atom],
-    ) -> Result<(), NoMemory>
-        requires few { length (spec.actions game.old side) < 8 }
-        requires name { (1 ≤ length name.now) × (length name.now ≤ 32) }
-        requires atoms { (length before.now ≤ 8) × (length effects.now ≤ 4) }
-        ensures { OnOk result (game.new ≡ spec.with_action game.old side (record { name = name.now; before = before.now; effects = effects.now })) }
-    {
-        match rect_of(game.width(), game.height(), before, effects) {
-            Some(_) => game.add_action(side, name, before, effects),
-            None => Err(NoMemory),
-        }
-    }
-
-    // Adds the line, of which an anchor is to fit.
-    fn add_line(game: &mut Game, side: Side, atoms: &[Atom]) -> Result<(), NoMemory>
-        requires few { length (spec.lines game.old side) < 256 }
-        requires atoms { length atoms.now ≤ 16 }
-        ensures { OnOk result (game.new ≡ spec.with_line game.old side atoms.now) }
-    {
-        match rect_of(game.width(), game.height(), atoms, &[]) {
-            Some(_) => game.add_line(side, atoms),
-            None => Err(NoMemory),
-        }
-    }
-
-    fn before_a_step() -> [Atom; 2] {
-        [here(Mark::Black), right(Mark::Free)]
-    }
-
-    fn after_a_step() -> [Atom; 2] {
-        [right(Mark::Black), here(Mark::Free)]
-    }
-
-    // On 2 by 2, an action and a line a side.
-    fn two_by_two(alloc: Global) -> Result<Game, NoMemory>
-        ensures { IfOk result (λ g. (side : Side) → (length (spec.actions g side) ≡ 1) × (length (spec.lines g side) ≡ 1)) }
-    {
-        let mut game = Game::begin(alloc, 2, 2);
-        add_action(
-            &mut game,
-            Side::Black,
-            b"step",
-            &before_a_step(),
-            &after_a_step(),
-        )?;
-        add_action(&mut game, Side::White, b"put", &[], &[here(Mark::White)])?;
-        add_line(&mut game, Side::Black, &after_a_step())?;
-        add_line(&mut game, Side::White, &[here(Mark::White)])?;
-        Ok(game)
-    }
-
-    fn anchors(x_high: u32) -> Rect {
-        Rect {
-            x_low: 1,
-            x_high,
-            y_low: 1,
-            y_high: 2,
-        }
-    }
-
-    #[test]
-    fn black_reads_its_own_items(rt: HostRuntime) -> Result<(), Fail> {
-        let game = two_by_two(rt.alloc())?;
-        let (before, after) = (before_a_step(), after_a_step());
-        assert_eq!(rt; (game.width(), game.height()), (2, 2));
-        assert_eq!(rt; game.actions(Side::Black), 1);
-        assert_eq!(rt; game.name(Side::Black, 0), b"step".as_slice());
-        assert_eq!(rt; game.before(Side::Black, 0), before.as_slice());
-        assert_eq!(rt; game.effects(Side::Black, 0), after.as_slice());
-        assert_eq!(rt; game.action_rect(Side::Black, 0), anchors(1));
-        assert_eq!(rt; game.lines(Side::Black), 1);
-        assert_eq!(rt; game.line(Side::Black, 0), after.as_slice());
-        assert_eq!(rt; game.line_rect(Side::Black, 0), anchors(1));
-        Ok(())
-    }
-
-    #[test]
-    fn white_reads_its_own_items(rt: HostRuntime) -> Result<(), Fail> {
-        let game = two_by_two(rt.alloc())?;
-        let put = [here(Mark::White)];
-        assert_eq!(rt; game.actions(Side::White), 1);
-        assert_eq!(rt; game.name(Side::White, 0), b"put".as_slice());
-        assert!(rt; game.before(Side::White, 0).is_empty());
-        assert_eq!(rt; game.effects(Side::White, 0), put.as_slice());
-        assert_eq!(rt; game.action_rect(Side::White, 0), anchors(2));
-        assert_eq!(rt; game.lines(Side::White), 1);
-        assert_eq!(rt; game.line(Side::White, 0), put.as_slice());
-        assert_eq!(rt; game.line_rect(Side::White, 0), anchors(2));
-        Ok(())
     }
 }

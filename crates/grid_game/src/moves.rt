@@ -66,7 +66,7 @@ impl MoveList {
 
 // Adds the moves of an action in row y and the columns of the rectangle where the preconditions hold.
 fn add_row(board: &Board, rect: Rect, before: &[Atom], action: u32, y: u32, list: &mut MoveList)
-    requires small { (rect.x_high ≤ 16) × (y ≤ 16) }
+    requires small { (rect.x_high ≤ spec.greatest_side) × (y ≤ spec.greatest_side) }
     requires cells { (x : ℕ) → rect.x_low ≤ x → x ≤ rect.x_high → list_all (on_board board.now.width board.now.height x y) before.now ≡ true }
     requires room { length list.old.moves + (rect.x_high + 1 - rect.x_low) ≤ list.old.room }
     ensures moves { list.new.moves ≡ list.old.moves ++ filter (marks_stand board.now before.now) (row_moves action y rect.x_low (rect.x_high + 1 - rect.x_low)) }
@@ -106,55 +106,5 @@ pub fn moves_into(game: &Game, board: &Board, side: Side, list: &mut MoveList)
     list.clear();
     for action in 0..game.actions(side) {
         add_action(game, board, side, action, list);
-    }
-}
-
-#[cfg(test)]
-mod tests {
-    use super::*;
-    use crate::rect::rect_of;
-    use bddl_model::{Mark, Term};
-    use std::test::Fail;
-
-    // On two by two, where Black writes its mark into open cells.
-    fn occupying(alloc: Global) -> Result<Game, NoMemory>
-        ensures width { IfOk result (λ g. g.width ≡ 2) }
-        ensures height { IfOk result (λ g. g.height ≡ 2) }
-        ensures black { IfOk result (λ g. length g.black_actions ≡ 1) }
-        ensures white { IfOk result (λ g. g.white_actions ≡ []) }
-    {
-        let open = [Atom {
-            mark: Mark::Free,
-            x: Term::Rel(0),
-            y: Term::Rel(0),
-        }];
-        let black = [Atom {
-            mark: Mark::Black,
-            x: Term::Rel(0),
-            y: Term::Rel(0),
-        }];
-        let Some(_) = rect_of(2, 2, &open, &black) else {
-            unreachable!()
-        };
-        let mut game = Game::begin(alloc, 2, 2);
-        game.add_action(Side::Black, b"occupy", &open, &black)?;
-        Ok(game)
-    }
-
-    #[test]
-    fn the_moves_take_the_place_of_those_before(rt: HostRuntime) -> Result<(), Fail> {
-        let game = occupying(rt.alloc())?;
-        let mut board = Board::free(rt.alloc(), 2, 2)?;
-        board.set(1, 1, Mark::White);
-        let open = [(2, 1), (1, 2), (2, 2)].map(|(x, y)| Move { action: 0, x, y });
-        let mut list = MoveList::for_game(rt.alloc(), &game)?;
-        assert_eq!(rt; (list.as_slice().len(), list.room()), (0, 4));
-        moves_into(&game, &board, Side::Black, &mut list);
-        assert_eq!(rt; list.as_slice(), open.as_slice());
-        moves_into(&game, &board, Side::Black, &mut list);
-        assert_eq!(rt; list.as_slice(), open.as_slice());
-        moves_into(&game, &board, Side::White, &mut list);
-        assert_eq!(rt; (list.as_slice().len(), list.room()), (0, 4));
-        Ok(())
     }
 }

@@ -1,16 +1,9 @@
 // The anchors that fit.
-ghost use Rattle.std.specs.Prelude.{◌≡◌, ◌++◌, ℕ, false, None, max, min, IfSome};
+ghost use Rattle.std.specs.Prelude.{◌≡◌, ◌≤◌, ◌++◌, ℕ, false, None, max, min, IfSome};
 ghost use Rattle.bddl_model.specs.Fitting.{fits};
 ghost use Rattle.bddl_model.specs.Rectangle as spec;
 
 use bddl_model::{Atom, Rect, Term};
-
-// Anchors of one coordinate, the ends included; none where the low end is past the high one.
-#[derive(Clone, Copy, Debug)]
-struct Range {
-    low: u32,
-    high: u32,
-}
 
 fn least_for(term: Term) -> u32
     ensures { result ≡ spec.least_for term }
@@ -32,70 +25,33 @@ fn greatest_for(side: u32, term: Term) -> u32
     }
 }
 
-// The anchors of both.
-fn overlap(one: Range, other: Range) -> Range
-    ensures low { result.low ≡ max one.low other.low }
-    ensures high { result.high ≡ min one.high other.high }
+// The anchors of a rectangle, which may be empty, from which the atoms' terms lead to cells of the
+// board too.
+fn narrowed(rect: Rect, width: u32, height: u32, atoms: &[Atom]) -> Rect
+    requires low { (1 ≤ rect.x_low) × (1 ≤ rect.y_low) }
+    requires high { (rect.x_high ≤ width) × (rect.y_high ≤ height) }
+    ensures x_low { result.x_low ≡ max rect.x_low (spec.least_anchor (spec.columns_of atoms.now)) }
+    ensures x_high { result.x_high ≡ min rect.x_high (spec.greatest_anchor width (spec.columns_of atoms.now)) }
+    ensures y_low { result.y_low ≡ max rect.y_low (spec.least_anchor (spec.rows_of atoms.now)) }
+    ensures y_high { result.y_high ≡ min rect.y_high (spec.greatest_anchor height (spec.rows_of atoms.now)) }
 {
-    Range {
-        low: one.low.max(other.low),
-        high: one.high.min(other.high),
-    }
-}
-
-fn narrowed(range: Range, side: u32, term: Term) -> Range
-    ensures low { result.low ≡ max range.low (spec.least_for term) }
-    ensures high { result.high ≡ min range.high (spec.greatest_for side term) }
-{
-    overlap(
-        range,
-        Range {
-            low: least_for(term),
-            high: greatest_for(side, term),
-        },
-    )
-}
-
-// The columns from which each atom's term leads to a column.
-fn columns(width: u32, atoms: &[Atom]) -> Range
-    ensures low { result.low ≡ spec.least_anchor (spec.columns_of atoms.now) }
-    ensures high { result.high ≡ spec.greatest_anchor width (spec.columns_of atoms.now) }
-{
-    let mut range = Range {
-        low: 1,
-        high: width,
-    };
+    let mut left = rect;
     for atom in atoms {
-        range = narrowed(range, width, atom.x);
+        left = Rect {
+            x_low: left.x_low.max(least_for(atom.x)),
+            x_high: left.x_high.min(greatest_for(width, atom.x)),
+            y_low: left.y_low.max(least_for(atom.y)),
+            y_high: left.y_high.min(greatest_for(height, atom.y)),
+        };
     }
-    range
+    left
 }
 
-// The rows from which each atom's term leads to a row.
-fn rows(height: u32, atoms: &[Atom]) -> Range
-    ensures low { result.low ≡ spec.least_anchor (spec.rows_of atoms.now) }
-    ensures high { result.high ≡ spec.greatest_anchor height (spec.rows_of atoms.now) }
+fn unless_empty(rect: Rect) -> Option<Rect>
+    ensures { result ≡ spec.rect_between rect.x_low rect.x_high rect.y_low rect.y_high }
 {
-    let mut range = Range {
-        low: 1,
-        high: height,
-    };
-    for atom in atoms {
-        range = narrowed(range, height, atom.y);
-    }
-    range
-}
-
-fn rect_between(columns: Range, rows: Range) -> Option<Rect>
-    ensures { result ≡ spec.rect_between columns.low columns.high rows.low rows.high }
-{
-    if columns.low <= columns.high && rows.low <= rows.high {
-        return Some(Rect {
-            x_low: columns.low,
-            x_high: columns.high,
-            y_low: rows.low,
-            y_high: rows.high,
-        });
+    if rect.x_low <= rect.x_high && rect.y_low <= rect.y_high {
+        return Some(rect);
     }
     None
 }
@@ -107,67 +63,15 @@ pub fn rect_of(width: u32, height: u32, first: &[Atom], second: &[Atom]) -> Opti
     ensures some { IfSome result (spec.IsRectOf width height (first.now ++ second.now)) }
     ensures none { result ≡ None → (x y : ℕ) → fits width height (first.now ++ second.now) x y ≡ false }
 {
-    let columns = overlap(columns(width, first), columns(width, second));
-    let rows = overlap(rows(height, first), rows(height, second));
-    rect_between(columns, rows)
+    let board = Rect {
+        x_low: 1,
+        x_high: width,
+        y_low: 1,
+        y_high: height,
+    };
+    let of_first = narrowed(board, width, height, first);
+    unless_empty(narrowed(of_first, width, height, second))
 }
 
 #[cfg(test)]
-mod tests {
-    use super::*;
-    use bddl_model::Mark;
-
-    fn atom(mark: Mark, x: Term, y: Term) -> Atom {
-        Atom { mark, x, y }
-    }
-
-    fn rect(x_low: u32, x_high: u32, y_low: u32, y_high: u32) -> Option<Rect> {
-        Some(Rect {
-            x_low,
-            x_high,
-            y_low,
-            y_high,
-        })
-    }
-
-    #[test]
-    fn both_lists_narrow_the_board(rt: HostRuntime) {
-        let right = [atom(Mark::Black, Term::Rel(1), Term::Rel(0))];
-        let left = [atom(Mark::White, Term::Rel(-1), Term::Abs(1))];
-        let above = [atom(Mark::Free, Term::Rel(0), Term::Rel(-1))];
-        assert_eq!(rt; rect_of(3, 2, &[], &[]), rect(1, 3, 1, 2));
-        assert_eq!(rt; rect_of(3, 2, &right, &[]), rect(1, 2, 1, 2));
-        assert_eq!(rt; rect_of(3, 2, &[], &left), rect(2, 3, 1, 2));
-        assert_eq!(rt; rect_of(3, 2, &right, &left), rect(2, 2, 1, 2));
-        assert_eq!(rt; rect_of(3, 2, &above, &left), rect(2, 3, 2, 2));
-        assert_eq!(rt; rect_of(2, 2, &left, &right), None);
-    }
-
-    #[test]
-    fn the_longest_shift_leaves_one_column(rt: HostRuntime) {
-        for (shift, want) in [
-            (15, rect(1, 1, 1, 16)),
-            (-15, rect(16, 16, 1, 16)),
-            (16, None),
-            (-16, None),
-            (i32::MAX, None),
-            (i32::MIN, None),
-        ] {
-            let far = [atom(Mark::Free, Term::Rel(shift), Term::Rel(0))];
-            assert_eq!(rt; rect_of(16, 16, &[], &far), want, "at {shift}");
-        }
-    }
-
-    #[test]
-    fn a_number_off_the_side_fits_nowhere(rt: HostRuntime) {
-        for (number, want) in [
-            (0, None),
-            (1, rect(1, 3, 1, 2)),
-            (2, rect(1, 3, 1, 2)),
-            (3, None),
-        ] {
-            let row = [atom(Mark::Free, Term::Rel(0), Term::Abs(number))];
-            assert_eq!(rt; rect_of(3, 2, &row, &[]), want, "at {number}");
-        }
-    }
-}
+mod tests;

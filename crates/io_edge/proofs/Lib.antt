@@ -1,3 +1,4 @@
 pub mod Fronts
 pub mod Steps
+pub mod Added
 pub mod Calls

@@ -7,9 +7,6 @@ use Rattle.io_edge.specs.declared.sink.SinkEnd.{SinkEnd}
 use Rattle.io_edge.specs.declared.sink.SinkEnd.TheVariants.{Failed}
 use Rattle.io_edge.proofs.Fronts.{with_bytes_none, written_more, front_then, front_first}
 
-pub puts_nothing : (old : Option (List ℕ)) → Puts [] old old (Ok tt)
-puts_nothing old = sym (with_bytes_none old)
-
 -- a text was put, and the next one comes to what it comes to
 pub puts_then :
     (a b : List ℕ) (old mid new : Option (List ℕ)) (r : Result Unit SinkEnd)
@@ -56,13 +53,6 @@ pub adds_finish :
     → Adds text old [] mid held (Ok tt) → Puts held mid new r → Puts text old new r
 adds_finish text old mid new held r p q =
     subst (λ t. Puts t old new r) p.2 (puts_then p.0 held old mid new r p.1 q)
-
--- a text that an empty buffer didn't take in
-pub adds_stops_puts :
-    (text : List ℕ) (old new : Option (List ℕ)) (held : List ℕ) (r : Result Unit SinkEnd)
-    → IsErr r → WithFront old new text × (held ≡ []) → Puts text old new r
-adds_stops_puts text old new held (Ok u) stopped p = cc
-adds_stops_puts text old new held (Err e) stopped p = p.0
 
 -- a text up to a place in it, and a run from there
 module _ (text : List ℕ) (at n : ℕ) (old mid new : Option (List ℕ)) (r : Result Unit SinkEnd) where

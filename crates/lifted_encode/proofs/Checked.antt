@@ -18,9 +18,10 @@ use Rattle.bddl_model.specs.declared.texts.InitAtom.{InitAtom}
 use Rattle.bddl_model.specs.declared.texts.ProblemText.{ProblemText}
 use Rattle.bddl_model.specs.Check.{first_of, fault_if, size_fault, depth_fault, term_fault, atoms_fault, length_fault, never_fault, same_cell, cell_fault, each_cell, cells_fault, line_fault, each_line, lines_fault, setup_fault}
 use Rattle.bddl_model.specs.Fitting.{on_side, cell_on_board}
+use Rattle.bddl_model.specs.Game.{greatest_side, line_atoms}
 use Rattle.bddl_model.specs.Limits.{IsSide}
-use Rattle.bddl_model.specs.Outcome.{no_actions}
-use Rattle.bddl_model.specs.Start.{is_number, in_numbers, IsStartProblem}
+use Rattle.bddl_model.specs.Setup.{line_of}
+use Rattle.bddl_model.specs.Start.{no_actions, is_number, in_numbers, IsStartProblem}
 use Rattle.lifted_encode.specs.Fixed.{number_on_side, names_cell, line_fits, IsFixed}
 
 -- ---- one check and the others
@@ -40,7 +41,7 @@ holds false f h = absurd cc
 at_most : (most n : ℕ) (f : CheckFault) → fault_if (nat_lt most n) f ≡ None → n ≤ most
 at_most most n f h = let within = holds_not (nat_lt most n) f h in grind (arith, nat_tests)
 
-is_side : (n : ℕ) → on_side 16 n ≡ true → IsSide n
+is_side : (n : ℕ) → on_side greatest_side n ≡ true → IsSide n
 is_side n h = let parts = and_parts _ _ h in (leb-true _ _ parts.0, leb-true _ _ parts.1)
 
 -- ---- cells
@@ -83,8 +84,9 @@ short_fits n h = grind (arith, nat_tests)
 line_passed : (width height : ℕ) (side : Side) (n : ℕ) (atoms : List AtomText) → line_fault width height side n atoms ≡ None → list_all in_numbers atoms ≡ true → line_fits width height atoms ≡ true
 line_passed width height side n atoms h numbers =
     let i = item.Line side n in
-    let short = first_passed (length_fault i part.Line 16 atoms) (atoms_fault i width height atoms ∷ never_fault i width height atoms ∷ []) h in
-    let fixed = first_passed (atoms_fault i width height atoms) (never_fault i width height atoms ∷ []) short.1 in
+    let never = never_fault i width height (line_atoms (line_of width height atoms)) ∷ [] in
+    let short = first_passed (length_fault i part.Line 16 atoms) (atoms_fault i width height atoms ∷ never) h in
+    let fixed = first_passed (atoms_fault i width height atoms) never short.1 in
     let few = at_most 16 (length atoms) (fault.TooManyAtoms i part.Line (length atoms)) short.0 in
     rw (short_fits (length atoms) few, atoms_passed i width height atoms fixed.0 numbers) refl
 
@@ -113,8 +115,8 @@ is_fixed p h start =
     let many = fault.TooManyLines Black (length p.black) in
     let few = first_passed (fault_if (nat_lt 256 (length p.black)) many) (each_line p.width p.height Black 1 p.black) lined.0 in
     record {
-      width = is_side p.width (holds (on_side 16 p.width) (fault.SizeOutOfRange Width p.width) wide.0);
-      height = is_side p.height (holds (on_side 16 p.height) (fault.SizeOutOfRange Height p.height) high.0);
+      width = is_side p.width (holds (on_side greatest_side p.width) (fault.SizeOutOfRange Width p.width) wide.0);
+      height = is_side p.height (holds (on_side greatest_side p.height) (fault.SizeOutOfRange Height p.height) high.0);
       depth = start.depth;
       cells = cells_passed p.width p.height [] p.init marked.0;
       few = at_most 256 (length p.black) many few.0;

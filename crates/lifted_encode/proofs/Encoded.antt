@@ -20,11 +20,12 @@ use Rattle.bddl_model.specs.Bits.{bits}
 use Rattle.bddl_model.specs.Board.{Board, open_board}
 use Rattle.bddl_model.specs.Circuit.{Circuit, nodes_of, holds, circuit_clauses}
 use Rattle.bddl_model.specs.CircuitValues.{gate_bounds}
+use Rattle.bddl_model.specs.Encodes.{Encodes}
 use Rattle.bddl_model.specs.Fitting.{on_side}
 use Rattle.bddl_model.specs.Layout.{Inputs, bounds, block, blocks, layout, prefix_of, span}
-use Rattle.bddl_model.specs.Outcome.{Encodes, no_actions}
 use Rattle.bddl_model.specs.Prenex.{with_gates}
 use Rattle.bddl_model.specs.Setup.{setup_of, marked, term_of, line_of}
+use Rattle.bddl_model.specs.Start.{no_actions}
 use Rattle.bddl_model.proofs.CircuitForms.{clauses_counted}
 use Rattle.bddl_model.proofs.Covering.{prefix_of-append}
 use Rattle.lifted_encode.specs.Fixed.{number_on_side, names_cell, line_fits, IsFixed}

@@ -6,7 +6,7 @@ use Rattle.bddl_model.specs.declared.texts.TermText.TheVariants.{Number}
 use Rattle.bddl_model.specs.declared.texts.AtomText.{AtomText}
 use Rattle.bddl_model.specs.declared.texts.InitAtom.{InitAtom}
 use Rattle.bddl_model.specs.Check.{setup_fault}
-use Rattle.bddl_model.specs.Outcome.{no_actions}
+use Rattle.bddl_model.specs.Start.{no_actions}
 
 pub two_cells_pass : (mark : Mark) (init : List InitAtom) (black white : List (List AtomText))
     → init ≡ record { mark = mark; x = 1; y = 1 } ∷ [] → black ≡ (record { mark = Black; x = Number 1; y = Number 1 } ∷ []) ∷ [] → white ≡ []

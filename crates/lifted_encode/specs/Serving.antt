@@ -7,6 +7,7 @@ use Rattle.bddl_model.specs.Truth.{Assignment}
 use Rattle.bddl_model.specs.Bits.{number_at}
 use Rattle.bddl_model.specs.Board.{Board, mark_at, same_mark}
 use Rattle.bddl_model.specs.Fitting.{led}
+use Rattle.bddl_model.specs.Limits.{IsSide}
 use Rattle.lifted_encode.specs.declared.board.Board as declared
 
 -- the atom's cell is the place, whose column and row are counted from 0
@@ -31,8 +32,8 @@ number_in s a = number_at a s.from s.len
 abbrev pub IsWord : ℕ → ℕ → Span → Type 0
 IsWord most inputs s = (1 ≤ s.from) × (s.from + s.len ≤ inputs + 1) × (s.len ≤ most)
 
--- a board of at most 16 by 16, with a mark for each cell
+-- a board with a mark for each cell
 pub record IsBoard (board : declared.Board) : Type 0 where
-  pub width : (1 ≤ board.width) × (board.width ≤ 16)
-  pub height : (1 ≤ board.height) × (board.height ≤ 16)
+  pub width : IsSide board.width
+  pub height : IsSide board.height
   pub size : length board.marks.items ≡ board.height * board.width

@@ -2,8 +2,10 @@
 ghost use Rattle.std.specs.Prelude.{◌≡◌, ◌*◌, ◌<◌, ◌≤◌, true, length, IfOk};
 ghost use Rattle.std.specs.List.{list_all};
 ghost use Rattle.bddl_model.specs.Board.{index, mark_at, open_board};
-ghost use Rattle.bddl_model.specs.Setup.{marked};
 ghost use Rattle.bddl_model.specs.Fitting.{cell_on_board};
+ghost use Rattle.bddl_model.specs.Game.{greatest_side};
+ghost use Rattle.bddl_model.specs.Limits.{IsSide};
+ghost use Rattle.bddl_model.specs.Setup.{marked};
 ghost use Rattle.lifted_encode.specs.Serving.{IsBoard};
 
 use bddl_model::{InitAtom, Mark, NoMemory};
@@ -11,7 +13,7 @@ use std::alloc::Global;
 
 // Where a cell stands in the list.
 fn index(width: u32, height: u32, x: u32, y: u32) -> usize
-    requires sides { (width ≤ 16) × (height ≤ 16) }
+    requires sides { (width ≤ greatest_side) × (height ≤ greatest_side) }
     requires column { (1 ≤ x) × (x ≤ width) }
     requires row { (1 ≤ y) × (y ≤ height) }
     ensures place { result ≡ index width x y }
@@ -35,8 +37,8 @@ pub fn start_board(
     height: u32,
     cells: &[InitAtom],
 ) -> Result<Board, NoMemory>
-    requires width { (1 ≤ width) × (width ≤ 16) }
-    requires height { (1 ≤ height) × (height ≤ 16) }
+    requires width { IsSide width }
+    requires height { IsSide height }
     requires cells { list_all (cell_on_board width height) cells.now ≡ true }
     ensures width { IfOk result (λ board. board.width ≡ width) }
     ensures height { IfOk result (λ board. board.height ≡ height) }

@@ -1,6 +1,7 @@
 // Where the inputs of a start position stand.
 ghost use Rattle.std.specs.Prelude.{◌≡◌, ◌+◌, ◌≤◌};
 ghost use Rattle.bddl_model.specs.Bits as spec;
+ghost use Rattle.bddl_model.specs.Game.{greatest_side};
 ghost use Rattle.bddl_model.specs.Layout.{span};
 
 use bddl_model::Span;
@@ -18,7 +19,7 @@ pub struct StartInputs {
 impl StartInputs {
     /// For a board of these sides and so many lines.
     pub fn of(width: u32, height: u32, lines: u32) -> StartInputs
-        requires sides { (width ≤ 16) × (height ≤ 16) }
+        requires sides { (width ≤ greatest_side) × (height ≤ greatest_side) }
         requires few { lines ≤ 256 }
         ensures line { result.line ≡ span 2 (spec.bits lines) }
         ensures column { result.column ≡ span (2 + spec.bits lines + (spec.bits width + spec.bits height)) (spec.bits width) }

@@ -1,7 +1,7 @@
 //! A problem as a quantified formula.
 //!
 //! The formula is true exactly when Black can force its goal: read `Encodes` in
-//! `bddl_model/specs/Outcome.antt` first.
+//! `bddl_model/specs/Encodes.antt` first.
 #![tactic(auto)]
 
 mod board;

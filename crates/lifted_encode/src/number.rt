@@ -2,8 +2,8 @@
 ghost use Rattle.std.specs.Prelude.{◌≡◌, ◌==◌, ◌+◌, ◌≤◌, IfOk};
 ghost use Rattle.bddl_model.specs.Truth.{Assignment};
 ghost use Rattle.bddl_model.specs.Bits.{number_at};
-ghost use Rattle.bddl_model.specs.Circuit.{nodes_of, IsWire, holds};
-ghost use Rattle.bddl_model.specs.Growth.{Grows};
+ghost use Rattle.bddl_model.specs.Circuit.{IsWire, holds};
+ghost use Rattle.bddl_model.specs.Growth.{Grows, HasRoom};
 
 use bddl_model::{NoMemory, Span, Wire};
 use circuit_dag::Dag;
@@ -12,7 +12,7 @@ use circuit_dag::Dag;
 pub fn is_number(dag: &mut Dag, word: Span, number: u32) -> Result<Wire, NoMemory>
     requires first { 1 ≤ word.from }
     requires last { word.from + word.len ≤ dag.old.inputs + 1 }
-    requires room { nodes_of dag.old + word.len ≤ 16777215 }
+    requires room { HasRoom dag.old word.len }
     ensures wire { IfOk result (λ w. IsWire dag.new w) }
     ensures value { IfOk result (λ w. (a : Assignment) → holds dag.new w a ≡ (number_at a word.from word.len == number)) }
     ensures grows { Grows word.len dag.old dag.new }

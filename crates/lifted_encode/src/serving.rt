@@ -2,8 +2,8 @@
 ghost use Rattle.std.specs.Prelude.{ℕ, ◌≡◌, ◌==◌, ◌+◌, ◌*◌, ◌≤◌, true, not, ◌&&◌, length, map, IfOk};
 ghost use Rattle.std.specs.List.{list_all};
 ghost use Rattle.bddl_model.specs.Truth.{Assignment};
-ghost use Rattle.bddl_model.specs.Circuit.{nodes_of, IsWire, holds};
-ghost use Rattle.bddl_model.specs.Growth.{Grows};
+ghost use Rattle.bddl_model.specs.Circuit.{IsWire, holds};
+ghost use Rattle.bddl_model.specs.Growth.{Grows, HasRoom};
 ghost use Rattle.bddl_model.specs.Setup.{atom_of, line_of};
 ghost use Rattle.lifted_encode.specs.Fixed.{names_cell, line_fits};
 ghost use Rattle.lifted_encode.specs.Serving.{agrees, serves, number_in, IsWord, IsBoard};
@@ -36,7 +36,7 @@ fn atom_agrees(
     requires cell { names_cell board.now.width board.now.height atom.now ≡ true }
     requires column { IsWord 4 dag.old.inputs inputs.column }
     requires row { IsWord 4 dag.old.inputs inputs.row }
-    requires room { nodes_of dag.old + 9 ≤ 16777215 }
+    requires room { HasRoom dag.old 9 }
     ensures wire { IfOk result (λ w. IsWire dag.new w) }
     ensures value { IfOk result (λ w. (a : Assignment) → holds dag.new w a
         ≡ agrees board.now.width board.now.marks.items (number_in inputs.column a) (number_in inputs.row a) (atom_of board.now.width board.now.height atom.now)) }
@@ -65,7 +65,7 @@ fn with_atom(
     requires cell { names_cell board.now.width board.now.height atom.now ≡ true }
     requires column { IsWord 4 dag.old.inputs inputs.column }
     requires row { IsWord 4 dag.old.inputs inputs.row }
-    requires room { nodes_of dag.old + 10 ≤ 16777215 }
+    requires room { HasRoom dag.old 10 }
     ensures wire { IfOk result (λ w. IsWire dag.new w) }
     ensures value { IfOk result (λ w. (a : Assignment) → holds dag.new w a
         ≡ (holds dag.old before a && agrees board.now.width board.now.marks.items (number_in inputs.column a) (number_in inputs.row a) (atom_of board.now.width board.now.height atom.now))) }
@@ -86,7 +86,7 @@ fn line_agrees(
     requires cells { list_all (names_cell board.now.width board.now.height) line.now ≡ true }
     requires column { IsWord 4 dag.old.inputs inputs.column }
     requires row { IsWord 4 dag.old.inputs inputs.row }
-    requires room { nodes_of dag.old + 10 * length line.now ≤ 16777215 }
+    requires room { HasRoom dag.old (10 * length line.now) }
     ensures wire { IfOk result (λ w. IsWire dag.new w) }
     ensures value { IfOk result (λ w. (a : Assignment) → holds dag.new w a
         ≡ list_all (agrees board.now.width board.now.marks.items (number_in inputs.column a) (number_in inputs.row a)) (line_of board.now.width board.now.height line.now)) }
@@ -114,7 +114,7 @@ fn without_line(
     requires line { IsWord 8 dag.old.inputs inputs.line }
     requires column { IsWord 4 dag.old.inputs inputs.column }
     requires row { IsWord 4 dag.old.inputs inputs.row }
-    requires room { nodes_of dag.old + 170 ≤ 16777215 }
+    requires room { HasRoom dag.old 170 }
     ensures wire { IfOk result (λ w. IsWire dag.new w) }
     ensures value { IfOk result (λ w. (a : Assignment) → holds dag.new w a
         ≡ (holds dag.old before a && not ((number_in inputs.line a == number)
@@ -142,7 +142,7 @@ pub fn some_line_serves(
     requires column { IsWord 4 dag.old.inputs inputs.column }
     requires row { IsWord 4 dag.old.inputs inputs.row }
     requires few { length lines.now ≤ 256 }
-    requires room { nodes_of dag.old + 170 * length lines.now ≤ 16777215 }
+    requires room { HasRoom dag.old (170 * length lines.now) }
     ensures wire { IfOk result (λ w. IsWire dag.new w) }
     ensures value { IfOk result (λ w. (a : Assignment) → holds dag.new w a
         ≡ serves board.now.width board.now.marks.items (map (line_of board.now.width board.now.height) lines.now)

@@ -1,7 +1,6 @@
 -- A code is split into its words.
-use Rattle.std.proofs.Common.{◌≡◌, ◌≢◌, ℕ, zero, suc, ◌+◌, ◌*◌, ◌≤◌, List, [], ◌∷◌, length, take, drop, inl, inr, refl, sym, ap, ◌∙◌, subst, arith, eq-eqb}
-use Rattle.std.proofs.Math.Nat.{mul-le-mul_left, mul-le-mul_right}
-use Rattle.std.proofs.lemmas.Bool.{cases_eq}
+use Rattle.std.proofs.Common.{◌≡◌, ℕ, zero, suc, ◌+◌, ◌*◌, ◌≤◌, List, [], ◌∷◌, length, take, drop, refl, sym, ap, ◌∙◌, subst, arith}
+use Rattle.std.proofs.Math.Nat.{mul-le-mul_right}
 use Rattle.std.proofs.lemmas.List.{length-take-le, length-drop, take-map, drop-map}
 use Rattle.bddl_model.specs.declared.circuit.Wire.{Wire}
 use Rattle.bddl_model.specs.declared.game.Side.{Side}
@@ -17,7 +16,7 @@ use Rattle.bddl_model.specs.Codes.{Shape, shape_of, code_length, spelled_move}
 use Rattle.bddl_model.proofs.Bits.{bits_most}
 use Rattle.bddl_model.proofs.Codes.{some_actions}
 use Rattle.move_code.specs.declared.range.CodeWords.{CodeWords}
-use Rattle.move_code.specs.CodeWords.{AreWordsOf, AreCodeWires, spelled, action_gates}
+use Rattle.move_code.specs.CodeWords.{AreCodeWires, AreWordsOf, spelled, action_gates}
 
 wires_front : (c : Circuit) (n : ℕ) (ws : List Wire) → AreWires c ws → AreWires c (take n ws)
 wires_front c zero ws h = tt
@@ -33,17 +32,6 @@ few_actions : (g : Game) (side : Side) → IsGame g → length (actions g side) 
 few_actions g Black is = is.black.few_actions
 few_actions g White is = is.white.few_actions
 
-pub short_code : (g : Game) (side : Side) → IsGame g → code_length (shape_of g side) ≤ 11
-short_code g side is = elim (cases_eq (length (actions g side)) 0) [
-  | inl none ↦ let no_bits : code_length (shape_of g side) ≡ 0 = rw (eq-eqb (length (actions g side)) 0 none) refl in omega arith
-  | inr some ↦
-      let whole = some_actions (shape_of g side) (omega (arith, some)) in
-      let action = bits_most (length (actions g side)) 3 (few_actions g side is) in
-      let columns = bits_most g.width 4 (omega (arith, is.width)) in
-      let rows = bits_most g.height 4 (omega (arith, is.height)) in
-      omega arith
-]
-
 pub few_gates : (g : Game) (side : Side) → IsGame g → length (actions g side) * (4 * (anchor_bits g + 4)) ≤ 384
 few_gates g side is =
     let each = mul-le-mul_right (4 * (anchor_bits g + 4)) (few_actions g side is) in
@@ -51,55 +39,60 @@ few_gates g side is =
     let rows = bits_most g.height 4 (omega (arith, is.height)) in
     omega arith
 
--- The code of a side with actions, and its words. The two shapes are the same.
-module _ (g : Game) (side : Side) (is : IsGame g) (some : length (actions g side) ≢ 0) (t : Shape) (same : t ≡ shape_of g side) (code : List Wire) (l : length code ≡ code_length (shape_of g side)) (words : CodeWords) (split : AreWordsOf t code words) where
+-- the parts into which a code is cut
+pub record AreParts (s : Shape) (code : List Wire) (words : CodeWords) : Type 0 where
+  pub action : words.action.now ≡ take (bits s.actions) code
+  pub x : words.x.now ≡ take (bits s.width) (drop (bits s.actions) code)
+  pub y : words.y.now ≡ drop (bits s.width) (drop (bits s.actions) code)
+
+module _ (g : Game) (side : Side) (is : IsGame g) (some : 1 ≤ length (actions g side)) (code : List Wire) (l : length code ≡ code_length (shape_of g side)) (words : CodeWords) (parts : AreParts (shape_of g side) code words) where
   abbrev s : Shape
   s = shape_of g side
 
-  of : AreWordsOf s code words
-  of = subst (λ u. AreWordsOf u code words) same split
-
   lengths : (length words.action.now ≡ bits s.actions) × (length words.x.now ≡ bits s.width) × (length words.y.now ≡ bits s.height)
   lengths =
-      let whole = l ∙ some_actions s (omega (arith, some)) in
+      let whole = l ∙ some_actions s some in
       let behind = length-drop (bits s.actions) code in
       let last = length-drop (bits s.width) (drop (bits s.actions) code) in
-      let y = ap length of.y in (
-        ap length of.action ∙ length-take-le (bits s.actions) code (omega arith),
-        ap length of.x ∙ length-take-le (bits s.width) (drop (bits s.actions) code) (omega arith),
+      let y = ap length parts.y in (
+        ap length parts.action ∙ length-take-le (bits s.actions) code (omega arith),
+        ap length parts.x ∙ length-take-le (bits s.width) (drop (bits s.actions) code) (omega arith),
         omega arith,
       )
 
-  pub words_are_wires : (c : Circuit) → AreWires c code → AreCodeWires c words
+  words_are_wires : (c : Circuit) → AreWires c code → AreCodeWires c words
   words_are_wires c are =
       let counts = lengths in
       let columns = bits_most g.width 4 (omega (arith, is.width)) in
       let rows = bits_most g.height 4 (omega (arith, is.height)) in
       let anchor = wires_behind c (bits s.actions) code are in
       record {
-        action = subst (AreWires c) (sym of.action) (wires_front c (bits s.actions) code are);
-        x = subst (AreWires c) (sym of.x) (wires_front c (bits s.width) (drop (bits s.actions) code) anchor);
-        y = subst (AreWires c) (sym of.y) (wires_behind c (bits s.width) (drop (bits s.actions) code) anchor);
+        action = subst (AreWires c) (sym parts.action) (wires_front c (bits s.actions) code are);
+        x = subst (AreWires c) (sym parts.x) (wires_front c (bits s.width) (drop (bits s.actions) code) anchor);
+        y = subst (AreWires c) (sym parts.y) (wires_behind c (bits s.width) (drop (bits s.actions) code) anchor);
         short = (omega arith, omega arith);
       }
 
-  pub gates_within : length (actions g side) * (action_gates words + 1) ≤ length (actions g side) * (4 * (anchor_bits g + 4))
+  gates_within : action_gates words + 1 ≤ 4 * (anchor_bits g + 4)
   gates_within =
       let counts = lengths in
       let action = bits_most s.actions 3 (few_actions g side is) in
-      mul-le-mul_left (length (actions g side)) (omega arith)
+      omega arith
 
-  pub spelled_by_words : (c : Circuit) (a : Assignment) → spelled c words a ≡ spelled_move s (word_bits c code a)
+  spelled_by_words : (c : Circuit) (a : Assignment) → spelled c words a ≡ spelled_move s (word_bits c code a)
   spelled_by_words c a = rw (ap number_of_bits action, ap number_of_bits x, ap number_of_bits y) refl
     where
       action : word_bits c words.action.now a ≡ take (bits s.actions) (word_bits c code a)
-      action = ap (λ ws. word_bits c ws a) of.action ∙ sym (take-map (λ w. holds c w a) (bits s.actions) code)
+      action = ap (λ ws. word_bits c ws a) parts.action ∙ sym (take-map (λ w. holds c w a) (bits s.actions) code)
 
       behind : drop (bits s.actions) (word_bits c code a) ≡ word_bits c (drop (bits s.actions) code) a
       behind = drop-map (λ w. holds c w a) (bits s.actions) code
 
       x : word_bits c words.x.now a ≡ take (bits s.width) (drop (bits s.actions) (word_bits c code a))
-      x = ap (λ ws. word_bits c ws a) of.x ∙ sym (ap (take (bits s.width)) behind ∙ take-map (λ w. holds c w a) (bits s.width) (drop (bits s.actions) code))
+      x = ap (λ ws. word_bits c ws a) parts.x ∙ sym (ap (take (bits s.width)) behind ∙ take-map (λ w. holds c w a) (bits s.width) (drop (bits s.actions) code))
 
       y : word_bits c words.y.now a ≡ drop (bits s.width) (drop (bits s.actions) (word_bits c code a))
-      y = ap (λ ws. word_bits c ws a) of.y ∙ sym (ap (drop (bits s.width)) behind ∙ drop-map (λ w. holds c w a) (bits s.width) (drop (bits s.actions) code))
+      y = ap (λ ws. word_bits c ws a) parts.y ∙ sym (ap (drop (bits s.width)) behind ∙ drop-map (λ w. holds c w a) (bits s.width) (drop (bits s.actions) code))
+
+  pub parts_are_words : AreWordsOf g side code words
+  parts_are_words = record { wires = words_are_wires; gates = gates_within; move = spelled_by_words }

@@ -1,5 +1,5 @@
 -- Rectangles on the board, and the gates that test them.
-use Rattle.std.proofs.Common.{◌≡◌, ◌≢◌, ℕ, ◌+◌, ◌-◌, ◌*◌, ◌≤◌, ◌<◌, Bool, true, false, ◌&&◌, ◌||◌, ◌==◌, nat_le, List, ◌++◌, length, inl, inr, refl, sym, ap, ap₂, ◌∙◌, arith, eq-eqb, ne_eqb, lt-ltb, le-ltb}
+use Rattle.std.proofs.Common.{◌≡◌, ◌≢◌, ℕ, ◌+◌, ◌-◌, ◌*◌, ◌≤◌, ◌<◌, Bool, true, false, ◌&&◌, ◌||◌, ◌==◌, nat_le, List, ◌++◌, length, Ok, inl, inr, refl, sym, ap, ap₂, ◌∙◌, arith, eq-eqb, ne_eqb, lt-ltb, le-ltb}
 use Rattle.std.specs.Prelude.{nat_lt, slice_get}
 use Rattle.std.proofs.lemmas.Bool.{cases_lt, cases_eq}
 use Rattle.std.proofs.lemmas.Bool.Decides.{nat_tests}
@@ -10,16 +10,15 @@ use Rattle.bddl_model.specs.declared.game.Atom.{Atom}
 use Rattle.bddl_model.specs.declared.game.Move.{Move}
 use Rattle.bddl_model.specs.declared.game.Rect.{Rect}
 use Rattle.bddl_model.specs.Truth.{Assignment}
-use Rattle.bddl_model.specs.Circuit.{Circuit, IsWire, holds}
-use Rattle.bddl_model.specs.Growth.{Grows}
+use Rattle.bddl_model.specs.Circuit.{Circuit, holds}
+use Rattle.bddl_model.specs.Growth.{Grows, Makes}
 use Rattle.bddl_model.specs.Words.{word_value}
 use Rattle.bddl_model.specs.Game.{Game, actions, action_at}
 use Rattle.bddl_model.specs.Rectangle.{in_rect, IsRectOf}
 use Rattle.bddl_model.specs.Codes.{fits_action, in_range}
-use Rattle.bddl_model.proofs.Growth.{grows_more}
+use Rattle.bddl_model.proofs.Growth.{grows_then}
 use Rattle.bddl_model.proofs.WireWords.{word_stays, value_kept}
-use Rattle.bddl_model.proofs.Anchors.{on_side_low}
-use Rattle.bddl_model.proofs.Anchors.{anchor_on_board, in_rect_fits}
+use Rattle.bddl_model.proofs.Anchors.{on_side_low, anchor_on_board, in_rect_fits}
 use Rattle.move_code.specs.declared.range.CodeWords.{CodeWords}
 use Rattle.move_code.specs.CodeWords.{AreCodeWires, CountsFromOne, spelled, is_at}
 
@@ -51,20 +50,23 @@ module _ (most : ℕ) (old new : Circuit) (words : CodeWords) (g : Grows most ol
   pub spelled_kept : (a : Assignment) → spelled new words a ≡ spelled old words a
   spelled_kept a = rw (value_kept most old new words.action.now a g are.action, value_kept most old new words.x.now a g are.x, value_kept most old new words.y.now a g are.y) refl
 
--- the gates of one action
-pub names_held : (first second third : ℕ) (c0 c1 c2 c3 c4 : Circuit) (words : CodeWords) (named in_columns in_rows inside : Wire) (action : ℕ) (r : Rect) (a : Assignment)
-    → Grows first c0 c1 → Grows second c1 c2 → Grows third c2 c3 → Grows 1 c3 c4 → AreCodeWires c0 words → IsWire c1 named → IsWire c2 in_columns
-    → holds c1 named a ≡ (word_value c0 words.action.now a == action)
-    → holds c2 in_columns a ≡ (nat_le r.x_low (word_value c1 words.x.now a + 1) && nat_le (word_value c1 words.x.now a + 1) r.x_high)
-    → holds c3 in_rows a ≡ (nat_le r.y_low (word_value c2 words.y.now a + 1) && nat_le (word_value c2 words.y.now a + 1) r.y_high)
-    → holds c4 inside a ≡ (holds c3 in_columns a && holds c3 in_rows a)
-    → (holds c4 named a && holds c4 inside a) ≡ is_at action r (spelled c0 words a)
-names_held first second third c0 c1 c2 c3 c4 words named in_columns in_rows inside action r a g1 g2 g3 g4 are i1 i2 e1 e2 e3 e4 =
+-- ---- the gates of one action
+
+abbrev pub is_between : ℕ → ℕ → ℕ → Bool
+is_between low high n = nat_le low n && nat_le n high
+
+pub names_held : {first second third : ℕ} {start one two three four : Circuit} {named in_columns in_rows inside : Wire} (words : CodeWords) (action : ℕ) (r : Rect)
+    → Makes first start one (Ok named) (λ a. word_value start words.action.now a == action)
+    → Makes second one two (Ok in_columns) (λ a. is_between r.x_low r.x_high (word_value one words.x.now a + 1))
+    → Makes third two three (Ok in_rows) (λ a. is_between r.y_low r.y_high (word_value two words.y.now a + 1))
+    → Makes 1 three four (Ok inside) (λ a. holds three in_columns a && holds three in_rows a)
+    → AreCodeWires start words → (a : Assignment) → (holds four named a && holds four inside a) ≡ is_at action r (spelled start words a)
+names_held {named = named} {in_columns = in_columns} words action r tested columns rows both are a =
     ap₂ (λ s t. s && t)
-    (g4.kept named a (g3.wires named (g2.wires named i1)) ∙ g3.kept named a (g2.wires named i1) ∙ g2.kept named a i1 ∙ e1)
-    (e4 ∙ ap₂ (λ s t. s && t)
-    (g3.kept in_columns a i2 ∙ e2 ∙ ap (λ n. nat_le r.x_low (n + 1) && nat_le (n + 1) r.x_high) (value_kept first c0 c1 words.x.now a g1 are.x))
-    (e3 ∙ ap (λ n. nat_le r.y_low (n + 1) && nat_le (n + 1) r.y_high) (value_kept (first + second) c0 c2 words.y.now a (grows_more first second (first + second) c0 c1 c2 g1 g2 (omega arith)) are.y)))
+    (both.grows.kept named a (rows.grows.wires named (columns.grows.wires named tested.wire)) ∙ rows.grows.kept named a (columns.grows.wires named tested.wire) ∙ columns.grows.kept named a tested.wire ∙ tested.value a)
+    (both.value a ∙ ap₂ (λ s t. s && t)
+    (rows.grows.kept in_columns a columns.wire ∙ columns.value a ∙ ap (λ n. is_between r.x_low r.x_high (n + 1)) (value_kept _ _ _ words.x.now a tested.grows are.x))
+    (rows.value a ∙ ap (λ n. is_between r.y_low r.y_high (n + 1)) (value_kept _ _ _ words.y.now a (grows_then tested.grows columns.grows) are.y)))
 
 -- ---- the actions of a side, one after the other
 
@@ -98,10 +100,11 @@ module _ (g : Game) (side : Side) (m : Move) where
           or_false true = refl
           or_false false = refl
 
+  pub past_the_last : length (actions g side) ≤ m.action → in_range g side m ≡ false
+  past_the_last le = ap (λ a. fits_action g a m.x m.y) (slice_get_past (actions g side) m.action le)
+
   pub all_actions : (i : ℕ) → length (actions g side) ≤ i → (nat_lt m.action i && in_range g side m) ≡ in_range g side m
   all_actions i le = elim (cases_lt m.action i) [
     | inl lt ↦ rw (lt-ltb m.action i lt) refl
-    | inr past ↦
-        let none : in_range g side m ≡ false = ap (λ a. fits_action g a m.x m.y) (slice_get_past (actions g side) m.action (omega arith)) in
-        rw (le-ltb m.action i past) (sym none)
+    | inr past ↦ rw (le-ltb m.action i past) (sym (past_the_last (omega arith)))
   ]

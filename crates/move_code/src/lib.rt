@@ -10,8 +10,6 @@ mod layout;
 mod number;
 mod range;
 mod sizes;
-#[cfg(test)]
-mod tests;
 
 pub use bddl_model::PlyBits;
 pub use code::{Shape, bits_of, move_of};

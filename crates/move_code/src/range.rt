@@ -1,9 +1,7 @@
 // Codes that are in range.
-ghost use Rattle.std.specs.Prelude.{◌≡◌, ◌+◌, ◌*◌, ◌≤◌, nat_le, ◌&&◌, ◌||◌, length, IfOk};
-ghost use Rattle.bddl_model.specs.Truth.{Assignment};
-ghost use Rattle.bddl_model.specs.Circuit.{nodes_of, IsWire, holds};
-ghost use Rattle.bddl_model.specs.Growth.{Grows};
-ghost use Rattle.bddl_model.specs.Bits as count;
+ghost use Rattle.std.specs.Prelude.{◌≡◌, ◌+◌, ◌*◌, ◌≤◌, nat_le, ◌&&◌, ◌||◌, length};
+ghost use Rattle.bddl_model.specs.Circuit.{IsWire, holds};
+ghost use Rattle.bddl_model.specs.Growth.{HasRoom, Makes};
 ghost use Rattle.bddl_model.specs.Words.{AreWires, word_bits, word_value};
 ghost use Rattle.bddl_model.specs.Game.{actions};
 ghost use Rattle.bddl_model.specs.Layout.{anchor_bits};
@@ -28,10 +26,13 @@ struct CodeWords<'a> {
 
 impl<'a> CodeWords<'a> {
     // Those of a code of a side with actions.
-    fn of(shape: &Shape, code: &'a [Wire]) -> CodeWords<'a>
-        requires { length code.now ≡ count.bits shape.now.actions + (count.bits shape.now.width + count.bits shape.now.height) }
-        ensures { AreWordsOf shape.now code.now result }
+    fn of(game: &Game, side: Side, code: &'a [Wire]) -> CodeWords<'a>
+        requires some { 1 ≤ length (actions game.now side) }
+        requires length { length code.now ≡ code_length (shape_of game.now side) }
+        ensures { AreWordsOf game.now side code.now result }
     {
+        game.keeps_the_limits();
+        let shape = Shape::of(game, side);
         let (action, anchor) = code.split_at(bits(shape.actions) as usize);
         let (x, y) = anchor.split_at(bits(shape.width) as usize);
         CodeWords { action, x, y }
@@ -45,10 +46,8 @@ fn stands_between(dag: &mut Dag, word: &[Wire], low: u32, high: u32) -> Result<W
     requires short { length word.now ≤ 16 }
     requires low { 1 ≤ low }
     requires high { 1 ≤ high }
-    requires room { nodes_of dag.old + (2 * length word.now + 1) ≤ 16777215 }
-    ensures wire { IfOk result (λ w. IsWire dag.new w) }
-    ensures value { IfOk result (λ w. (a : Assignment) → holds dag.new w a ≡ (nat_le low (word_value dag.old word.now a + 1) && nat_le (word_value dag.old word.now a + 1) high)) }
-    ensures grows { Grows (2 * length word.now + 1) dag.old dag.new }
+    requires room { HasRoom dag.old (2 * length word.now + 1) }
+    ensures { Makes (2 * length word.now + 1) dag.old dag.new result (λ a. nat_le low (word_value dag.old word.now a + 1) && nat_le (word_value dag.old word.now a + 1) high) }
 {
     let from = at_least(dag, word, low - 1)?;
     let to = at_most(dag, word, high - 1)?;
@@ -59,10 +58,8 @@ fn stands_between(dag: &mut Dag, word: &[Wire], low: u32, high: u32) -> Result<W
 fn names(dag: &mut Dag, words: CodeWords, action: u32, rect: Rect) -> Result<Wire, NoMemory>
     requires words { AreCodeWires dag.old words }
     requires rect { CountsFromOne rect }
-    requires room { nodes_of dag.old + action_gates words ≤ 16777215 }
-    ensures wire { IfOk result (λ w. IsWire dag.new w) }
-    ensures value { IfOk result (λ w. (a : Assignment) → holds dag.new w a ≡ is_at action rect (spelled dag.old words.entry a)) }
-    ensures grows { Grows (action_gates words.entry) dag.old dag.new }
+    requires room { HasRoom dag.old (action_gates words) }
+    ensures { Makes (action_gates words.entry) dag.old dag.new result (λ a. is_at action rect (spelled dag.old words.entry a)) }
 {
     let named = equal_const(dag, words.action, action)?;
     let in_columns = stands_between(dag, words.x, rect.x_low, rect.x_high)?;
@@ -82,10 +79,8 @@ fn also_names(
     requires known { IsWire dag.old known }
     requires words { AreCodeWires dag.old words }
     requires rect { CountsFromOne rect }
-    requires room { nodes_of dag.old + (action_gates words + 1) ≤ 16777215 }
-    ensures wire { IfOk result (λ w. IsWire dag.new w) }
-    ensures value { IfOk result (λ w. (a : Assignment) → holds dag.new w a ≡ (holds dag.old known a || is_at action rect (spelled dag.old words.entry a))) }
-    ensures grows { Grows (action_gates words.entry + 1) dag.old dag.new }
+    requires room { HasRoom dag.old (action_gates words + 1) }
+    ensures { Makes (action_gates words.entry + 1) dag.old dag.new result (λ a. holds dag.old known a || is_at action rect (spelled dag.old words.entry a)) }
 {
     let named = names(dag, words, action, rect)?;
     or(dag, known, named)
@@ -94,10 +89,8 @@ fn also_names(
 // A wire that holds where the words spell a move of one of the side's actions, at an anchor that fits.
 fn some_action(dag: &mut Dag, game: &Game, side: Side, words: CodeWords) -> Result<Wire, NoMemory>
     requires words { AreCodeWires dag.old words }
-    requires room { nodes_of dag.old + length (actions game.now side) * (action_gates words + 1) ≤ 16777215 }
-    ensures wire { IfOk result (λ w. IsWire dag.new w) }
-    ensures value { IfOk result (λ w. (a : Assignment) → holds dag.new w a ≡ spec.in_range game.now side (spelled dag.old words.entry a)) }
-    ensures grows { Grows (length (actions game.now side) * (action_gates words.entry + 1)) dag.old dag.new }
+    requires room { HasRoom dag.old (length (actions game.now side) * (action_gates words + 1)) }
+    ensures { Makes (length (actions game.now side) * (action_gates words.entry + 1)) dag.old dag.new result (λ a. spec.in_range game.now side (spelled dag.old words.entry a)) }
 {
     let truth = dag.truth();
     let mut known = dag.not(truth);
@@ -111,16 +104,16 @@ fn some_action(dag: &mut Dag, game: &Game, side: Side, words: CodeWords) -> Resu
 pub fn in_range(dag: &mut Dag, game: &Game, side: Side, code: &[Wire]) -> Result<Wire, NoMemory>
     requires wires { AreWires dag.old code.now }
     requires length { length code.now ≡ code_length (shape_of game.now side) }
-    requires room { nodes_of dag.old + length (actions game.now side) * (4 * (anchor_bits game.now + 4)) ≤ 16777215 }
-    ensures wire { IfOk result (λ w. IsWire dag.new w) }
-    ensures value { IfOk result (λ w. (a : Assignment) → holds dag.new w a ≡ spec.in_range game.now side (spelled_move (shape_of game.now side) (word_bits dag.old code.now a))) }
-    ensures grows { Grows (length (actions game.now side) * (4 * (anchor_bits game.now + 4))) dag.old dag.new }
+    requires room { HasRoom dag.old (length (actions game.now side) * (4 * (anchor_bits game.now + 4))) }
+    ensures { Makes (length (actions game.now side) * (4 * (anchor_bits game.now + 4))) dag.old dag.new result (λ a. spec.in_range game.now side (spelled_move (shape_of game.now side) (word_bits dag.old code.now a))) }
 {
     if game.actions(side) == 0 {
         let truth = dag.truth();
         return Ok(dag.not(truth));
     }
-    game.keeps_the_limits();
-    let words = CodeWords::of(&Shape::of(game, side), code);
+    let words = CodeWords::of(game, side, code);
     some_action(dag, game, side, words)
 }
+
+#[cfg(test)]
+mod tests;

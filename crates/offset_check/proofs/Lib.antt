@@ -1,6 +1,5 @@
 pub mod Faults
 pub mod AnchorFound
-pub mod ActionFaults
 pub mod AddedItems
 pub mod CellCounts
 pub mod CellFaults

@@ -1,8 +1,7 @@
 // What is asked of each action and each goal line.
-ghost use Rattle.std.specs.Prelude.{◌++◌, not, OnOk};
-ghost use Rattle.bddl_model.specs.Check.{length_fault, fault_if, fits_somewhere};
+ghost use Rattle.std.specs.Prelude.{◌++◌, OnOk};
+ghost use Rattle.bddl_model.specs.Check.{length_fault, never_fault};
 ghost use Rattle.bddl_model.specs.Limits.{FitsSomewhere};
-ghost use Rattle.bddl_model.specs.declared.check.CheckFault.TheVariants as fault;
 ghost use Rattle.offset_check.specs.Checks.{Checks};
 
 use bddl_model::{Atom, AtomText, CheckFault, Item, Part};
@@ -36,7 +35,7 @@ pub fn check_fits(
     first: &[Atom],
     second: &[Atom],
 ) -> Result<(), CheckFault>
-    ensures checks { Checks (fault_if (not (fits_somewhere width height (first.now ++ second.now))) (fault.NeverOnBoard item)) result }
+    ensures checks { Checks (never_fault item width height (first.now ++ second.now)) result }
     ensures fits { OnOk result (FitsSomewhere width height (first.now ++ second.now)) }
 {
     match rect_of(width, height, first, second) {

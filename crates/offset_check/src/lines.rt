@@ -1,5 +1,5 @@
 // A side's goal lines.
-ghost use Rattle.std.specs.Prelude.{◌≡◌, ◌≤◌, ◌<◌, [], length, map, OnOk};
+ghost use Rattle.std.specs.Prelude.{◌≡◌, ◌<◌, [], length, map, OnOk};
 ghost use Rattle.bddl_model.specs.Check.{lines_fault, line_fault};
 ghost use Rattle.bddl_model.specs.Game as spec;
 ghost use Rattle.bddl_model.specs.Setup.{line_of};

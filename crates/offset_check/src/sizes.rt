@@ -1,15 +1,14 @@
 // Sides and depth.
-ghost use Rattle.std.specs.Prelude.{◌≡◌};
 ghost use Rattle.bddl_model.specs.Check.{size_fault, depth_fault};
 ghost use Rattle.offset_check.specs.Checks.{Checks};
 
-use bddl_model::{Axis, CheckFault};
+use bddl_model::{Axis, CheckFault, GREATEST_SIDE};
 
-/// A side of the board is 1 to 16.
+/// A side of the board is 1 to the greatest one.
 pub fn check_size(axis: Axis, said: u32) -> Result<(), CheckFault>
     ensures { Checks (size_fault axis said) result }
 {
-    if 1 <= said && said <= 16 {
+    if 1 <= said && said <= GREATEST_SIDE {
         return Ok(());
     }
     Err(CheckFault::SizeOutOfRange { axis, said })

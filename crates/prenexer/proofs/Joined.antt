@@ -7,7 +7,7 @@ use Rattle.bddl_model.specs.FormulaText.{same_quant}
 use Rattle.bddl_model.specs.Layout.{span, block}
 use Rattle.bddl_model.specs.Prenex.{Cover, merged}
 use Rattle.bddl_model.proofs.Covering.{counted-range}
-use Rattle.bddl_model.proofs.Prenexing.{behind_blocks, variables_in, covered_length, merged_length}
+use Rattle.prenexer.proofs.Prenexing.{behind_blocks, variables_in, covered_length, merged_length}
 use Rattle.std.proofs.lemmas.List.{take_more}
 use Rattle.std.proofs.lemmas.List.Sums.{sum_by_push, sum_by-take-le}
 use Rattle.bddl_model.specs.contracts.formula.Quant as quant

@@ -1,3 +1,4 @@
+pub mod Prenexing
 pub mod Joined
 pub mod Pushed
 pub mod Whole

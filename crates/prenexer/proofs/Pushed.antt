@@ -11,7 +11,7 @@ use Rattle.bddl_model.specs.Prenex.{Cover}
 use Rattle.bddl_model.proofs.Counted.{counted, not_counted, variables-bounds, variables-append}
 use Rattle.bddl_model.proofs.NumberLists.{has_append}
 use Rattle.bddl_model.proofs.Covering.{counted-range}
-use Rattle.bddl_model.proofs.Prenexing.{counted_parts, counted_rest, bound}
+use Rattle.prenexer.proofs.Prenexing.{counted_parts, counted_rest, bound}
 
 -- ---- one block
 

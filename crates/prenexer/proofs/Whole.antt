@@ -7,7 +7,7 @@ use Rattle.bddl_model.specs.FormulaText.{sets_of}
 use Rattle.bddl_model.specs.Layout.{prefix_of}
 use Rattle.bddl_model.specs.Prenex.{Cover, merged, set_of, with_gates}
 use Rattle.std.specs.List.{range_with_len}
-use Rattle.bddl_model.proofs.Prenexing.{covers_gates, covered_prefix, covered_sets}
+use Rattle.prenexer.proofs.Prenexing.{covers_gates, covered_prefix, covered_sets}
 
 module _ (bs : List Block) (inputs gates : ℕ) (covers : Cover bs inputs) (whole : List Block) (w : whole ≡ with_gates bs inputs gates) where
   pub whole_covers : Cover whole (inputs + gates)

@@ -6,9 +6,8 @@ use Rattle.std.proofs.lemmas.Bool.{or_left, or_right, or_cases, or_from, and_par
 use Rattle.bddl_model.specs.declared.formula.Bound.{Bound}
 use Rattle.bddl_model.specs.declared.formula.Lit.{Lit}
 use Rattle.bddl_model.specs.Truth.{negation}
-use Rattle.bddl_model.specs.Forms.{has_number, prefix_variables, literal_variables, AllApart, AllFitPrefix, FitsPrefix}
+use Rattle.bddl_model.specs.Forms.{has_literal, has_number, prefix_variables, literal_variables, AllApart, AllFitPrefix, FitsPrefix}
 use Rattle.bddl_model.specs.Circuit.{positive}
-use Rattle.bddl_model.specs.Resolution.{has_literal}
 use Rattle.bddl_model.specs.Tail.{same_clause, has_clause, literals_of, defines, is_gate}
 use Rattle.bddl_model.proofs.Assignments.{eqb_turned}
 use Rattle.qbf_form.specs.declared.pairs.Pair.{Pair}

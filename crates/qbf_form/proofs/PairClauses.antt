@@ -6,8 +6,7 @@ use Rattle.std.proofs.lemmas.Bool.{cases_lt, lt-ltb, le-ltb, or_left, or_cases, 
 use Rattle.std.proofs.lemmas.List.Folds.{list_any-append}
 use Rattle.bddl_model.specs.declared.formula.Bound.{Bound}
 use Rattle.bddl_model.specs.declared.formula.Lit.{Lit}
-use Rattle.bddl_model.specs.Forms.{literal_variables, AllApart, AllFitPrefix}
-use Rattle.bddl_model.specs.Resolution.{same_literal, has_literal}
+use Rattle.bddl_model.specs.Forms.{has_literal, literal_variables, same_literal, AllApart, AllFitPrefix}
 use Rattle.bddl_model.specs.Tail.{same_clause, has_clause}
 use Rattle.bddl_model.proofs.Assignments.{eqb_turned}
 use Rattle.qbf_form.specs.declared.pairs.Pair.{Pair}

@@ -1,13 +1,14 @@
 -- Clauses with the same literals have the same length; one of one literal is that literal.
 use Rattle.std.proofs.Common.{◌≡◌, ℕ, Bool, true, false, not, List, [], ◌∷◌, length, ◌⊎◌, inl, inr, ⊎_elim, refl, sym, ap, ap₂, subst, ◌∙◌, arith, eqb-true, eq-eqb}
 use Rattle.std.specs.Prelude.{◌==◌}
+use Rattle.std.specs.Bool.{beq}
+use Rattle.std.specs.Cmp.{booleans_Decides}
 use Rattle.std.specs.List.{list_all}
 use Rattle.std.proofs.lemmas.Bool.{or_left, or_right, or_cases, and_parts, and_from, false_from_ne_true, not-true}
 use Rattle.std.proofs.lemmas.List.{length-map}
 use Rattle.bddl_model.specs.declared.formula.Lit.{Lit}
-use Rattle.bddl_model.specs.Forms.{has_number, literal_variables, AllApart, AllAmong}
+use Rattle.bddl_model.specs.Forms.{has_number, has_literal, literal_variables, same_literal, AllApart, AllAmong}
 use Rattle.bddl_model.specs.Circuit.{positive}
-use Rattle.bddl_model.specs.Resolution.{same_sign, same_literal, has_literal}
 use Rattle.bddl_model.specs.Tail.{same_clause}
 use Rattle.qbf_form.specs.TailMarks.{is_unit}
 use Rattle.qbf_form.proofs.Variables.{few_among}
@@ -19,16 +20,6 @@ same_bool false false there back = refl
 
 -- ---- literals
 
-signs_same : (b c : Bool) → same_sign b c ≡ true → b ≡ c
-signs_same true true h = refl
-signs_same true false h = absurd cc
-signs_same false true h = absurd cc
-signs_same false false h = refl
-
-sign_same : (b : Bool) → same_sign b b ≡ true
-sign_same true = refl
-sign_same false = refl
-
 pub equal_literals : (l m : Lit) → l.var.0 ≡ m.var.0 → l.negated ≡ m.negated → l ≡ m
 equal_literals l m var sign = ap₂ literal var sign
   where
@@ -37,11 +28,11 @@ equal_literals l m var sign = ap₂ literal var sign
 
 pub literals_same : (l m : Lit) → same_literal l m ≡ true → l ≡ m
 literals_same l m h =
-    let parts = and_parts (l.var.0 == m.var.0) (same_sign l.negated m.negated) h in
-    equal_literals l m (eqb-true l.var.0 m.var.0 parts.0) (signs_same l.negated m.negated parts.1)
+    let parts = and_parts (l.var.0 == m.var.0) (beq l.negated m.negated) h in
+    equal_literals l m (eqb-true l.var.0 m.var.0 parts.0) ((booleans_Decides l.negated m.negated).0 parts.1)
 
 pub literal_same : (l : Lit) → same_literal l l ≡ true
-literal_same l = and_from (l.var.0 == l.var.0) (same_sign l.negated l.negated) (eq-eqb l.var.0 l.var.0 refl) (sign_same l.negated)
+literal_same l = and_from (l.var.0 == l.var.0) (beq l.negated l.negated) (eq-eqb l.var.0 l.var.0 refl) ((booleans_Decides l.negated l.negated).1 refl)
 
 pub here : (l : Lit) (ls : List Lit) → has_literal (l ∷ ls) l ≡ true
 here l ls = or_left (same_literal l l) (has_literal ls l) (literal_same l)

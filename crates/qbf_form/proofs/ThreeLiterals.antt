@@ -4,8 +4,7 @@ use Rattle.std.specs.Prelude.{◌==◌}
 use Rattle.std.specs.List.{list_all}
 use Rattle.std.proofs.lemmas.Bool.{or_parts, and_from}
 use Rattle.bddl_model.specs.declared.formula.Lit.{Lit}
-use Rattle.bddl_model.specs.Forms.{literal_variables, AllApart}
-use Rattle.bddl_model.specs.Resolution.{has_literal}
+use Rattle.bddl_model.specs.Forms.{has_literal, literal_variables, AllApart}
 use Rattle.bddl_model.specs.Tail.{same_clause}
 use Rattle.qbf_form.proofs.SameClauses.{here, later}
 

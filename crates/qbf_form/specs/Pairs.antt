@@ -2,7 +2,7 @@
 use Rattle.std.specs.Prelude.{Bool, ◌&&◌, nat_lt, if◌then◌else◌, List, [], ◌∷◌, flat_map}
 use Rattle.std.specs.List.{list_any}
 use Rattle.bddl_model.specs.declared.formula.Lit.{Lit}
-use Rattle.bddl_model.specs.Resolution.{same_literal}
+use Rattle.bddl_model.specs.Forms.{same_literal}
 use Rattle.qbf_form.specs.declared.pairs.Pair.{Pair}
 
 -- the literal of the smaller variable stands first

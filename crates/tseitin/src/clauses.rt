@@ -1,10 +1,10 @@
 // The clauses of a circuit.
-ghost use Rattle.std.specs.Prelude.{◌≡◌, ◌≤◌, ◌↔◌, true, List, [], ◌∷◌, ◌++◌, IfOk, OnOk};
+ghost use Rattle.std.specs.Prelude.{◌≡◌, ◌≤◌, ◌↔◌, true, List, [], ◌++◌, IfOk, OnOk};
 ghost use Rattle.std.specs.List.{range_with_len};
 ghost use Rattle.bddl_model.specs.declared.formula.Bound.{Bound};
 ghost use Rattle.bddl_model.specs.Circuit as spec;
 ghost use Rattle.bddl_model.specs.CircuitValues.{SameInputs, SameGates, gate_bounds};
-ghost use Rattle.bddl_model.specs.Forms.{prefix_variables, AllFitPrefix};
+ghost use Rattle.bddl_model.specs.Forms.{greatest_variables, prefix_variables, AllFitPrefix};
 ghost use Rattle.bddl_model.specs.Truth.{Assignment, value, clauses_true};
 
 use bddl_laws::circuit_clauses_hold;
@@ -15,8 +15,8 @@ use std::alloc::Global;
 
 // An input has its own number. Node 0 stands behind the inputs, and the gates behind it.
 fn variable_of(inputs: u32, node: NodeId) -> u32
-    requires inputs { inputs ≤ 16777215 }
-    requires node { node.0 ≤ 16777215 }
+    requires inputs { inputs ≤ greatest_variables }
+    requires node { node.0 ≤ greatest_variables }
     ensures { result ≡ spec.variable_of inputs node.0 }
 {
     if node.0 == 0 {
@@ -29,8 +29,8 @@ fn variable_of(inputs: u32, node: NodeId) -> u32
 }
 
 fn literal_of(inputs: u32, wire: Wire) -> Lit
-    requires inputs { inputs ≤ 16777215 }
-    requires node { wire.node.0 ≤ 16777215 }
+    requires inputs { inputs ≤ greatest_variables }
+    requires node { wire.node.0 ≤ greatest_variables }
     ensures { result ≡ spec.literal_of inputs wire }
 {
     Lit {
@@ -47,9 +47,9 @@ fn add_gate(
     left: Wire,
     right: Wire,
 ) -> Result<(), NoMemory>
-    requires inputs { inputs ≤ 16777215 }
-    requires left { left.node.0 ≤ 16777215 }
-    requires right { right.node.0 ≤ 16777215 }
+    requires inputs { inputs ≤ greatest_variables }
+    requires left { left.node.0 ≤ greatest_variables }
+    requires right { right.node.0 ≤ greatest_variables }
     requires fits { AllFitPrefix form.old.prefix (spec.gate_clauses variable (spec.literal_of inputs left) (spec.literal_of inputs right) []) }
     ensures { OnOk result (form.new ≡ record form.old {
       clauses = form.old.clauses ++ spec.gate_clauses variable (spec.literal_of inputs left) (spec.literal_of inputs right) [];

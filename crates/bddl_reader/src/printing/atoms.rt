@@ -1,45 +1,21 @@
 // Atoms.
 
-ghost use Rattle.std.specs.Prelude.{◌≡◌, ◌++◌, OnOk, flat_map, codes};
-ghost use Rattle.bddl_model.specs.Canonical.{atom_text, atoms_text};
+ghost use Rattle.bddl_model.specs.Canonical.{atom_text};
 
+use super::list::Printed;
 use super::terms::{push_x, push_y};
 use super::words::{push, push_mark};
 use bddl_model::{AtomText, NoMemory};
 
-fn push_atom(text: &mut Vec<u8>, atom: &AtomText) -> Result<(), NoMemory>
-    ensures { OnOk result (text.new.items ≡ text.old.items ++ atom_text atom.now) }
-{
-    push_mark(text, atom.mark)?;
-    push(text, b"(")?;
-    push_x(text, atom.x)?;
-    push(text, b",")?;
-    push_y(text, atom.y)?;
-    push(text, b")")
-}
+impl Printed for AtomText {
+    ghost text_of = { atom_text };
 
-// Each behind a space.
-fn push_more_atoms(text: &mut Vec<u8>, atoms: &[AtomText]) -> Result<(), NoMemory>
-    ensures { OnOk result (text.new.items ≡ text.old.items ++ flat_map (λ a. codes " " ++ atom_text a) atoms.now) }
-{
-    for atom in atoms {
-        push(text, b" ")?;
-        push_atom(text, atom)?;
-    }
-    Ok(())
-}
-
-/// Atoms between parentheses.
-pub fn push_atoms(text: &mut Vec<u8>, atoms: &[AtomText]) -> Result<(), NoMemory>
-    ensures { OnOk result (text.new.items ≡ text.old.items ++ atoms_text atoms.now) }
-{
-    match atoms {
-        [] => push(text, b"()"),
-        [first, more @ ..] => {
-            push(text, b"(")?;
-            push_atom(text, first)?;
-            push_more_atoms(text, more)?;
-            push(text, b")")
-        }
+    fn push_to(&self, text: &mut Vec<u8>) -> Result<(), NoMemory> {
+        push_mark(text, self.mark)?;
+        push(text, b"(")?;
+        push_x(text, self.x)?;
+        push(text, b",")?;
+        push_y(text, self.y)?;
+        push(text, b")")
     }
 }

@@ -7,4 +7,4 @@ pub returns-clause-implied : goal.returns-clause-implied
 returns-clause-implied c = fine_implied
 
 pub returns-clause-of_form : goal.returns-clause-of_form
-returns-clause-of_form c f i = All-from_recursion (FineClauseOf f) f.clauses (fine_originals f i)
+returns-clause-of_form c kept f i = All-from_recursion (FineClauseOf kept f) f.clauses (fine_originals kept f i)

@@ -7,5 +7,5 @@ pub returns-clause-on_signs : goal.returns-clause-on_signs
 returns-clause-on_signs c = fine_resolved
 
 pub returns-clause-on_literal : goal.returns-clause-on_literal
-returns-clause-on_literal c prefix m l left right d f g h i alone =
-    fine_resolved prefix m l.var.0 l.negated left right d f g (sign_of_literal left l f.fits.1 h) (sign_of_literal right (negation l) g.fits.1 i) alone
+returns-clause-on_literal c kept prefix m l left right d f g h i alone =
+    fine_resolved kept prefix m l.var.0 l.negated left right d f g (sign_of_literal left l f.fits.1 h) (sign_of_literal right (negation l) g.fits.1 i) alone

@@ -1,5 +1,5 @@
 use Rattle.std.proofs.Common.{arith}
-use Rattle.bddl_model.proofs.Growth.{grows_more}
+use Rattle.bddl_model.proofs.Growth.{grows_then, grows_within}
 use Rattle.bddl_model.proofs.WireItems.{item_stays}
 use Rattle.bit_arith.proofs.Turns.{reached_turn}
 use Rattle.bit_arith.proofs.compare.at_least.Goals as goal
@@ -10,6 +10,6 @@ join-requires-clause-right c = item_stays c.bits.wire-index c.args.dag.now c.bit
 pub bits-preserved : goal.bits-preserved
 bits-preserved c = record {
   wire = c.in_ok-reached.ensures.wire;
-  grows = grows_more c.bits.wire-index 1 _ _ _ _ c.bits.invariant.grows c.in_ok-reached.ensures.grows (omega arith);
+  grows = grows_within (grows_then c.bits.invariant.grows c.in_ok-reached.ensures.grows) (omega arith);
   value = λ v. reached_turn c.bits.wire-index c.bits.wire-index c.args.dag.now c.bits.dag c.join.new.dag c.args.a.now _ c.bits.reached c.in_ok-reached.reached v c.bits.invariant.grows c.requires.a c.bits-test.true _ c.bits.rest (c.bits.invariant.value v) (c.in_ok-reached.ensures.value v);
 }

@@ -1,5 +1,5 @@
 use Rattle.std.proofs.Common.{arith}
-use Rattle.bddl_model.proofs.Growth.{grows_more}
+use Rattle.bddl_model.proofs.Growth.{grows_then, grows_within}
 use Rattle.bddl_model.proofs.WireItems.{item_stays}
 use Rattle.bit_arith.proofs.Turns.{all_turn}
 use Rattle.bit_arith.proofs.many.all_of.Goals as goal
@@ -9,7 +9,7 @@ and-requires-clause-right c = item_stays c.wires.wire-index c.args.dag.now c.wir
 
 pub wires-preserved : goal.wires-preserved
 wires-preserved c = record {
-  wire = c.in_ok-all.ensures.wire;
-  grows = grows_more c.wires.wire-index 1 _ _ _ _ c.wires.invariant.grows c.in_ok-all.ensures.grows (omega arith);
-  value = λ a. all_turn c.wires.wire-index c.wires.wire-index c.args.dag.now c.wires.dag c.and.new.self c.args.wires.now _ c.wires.all c.in_ok-all.all a c.wires.invariant.grows c.requires.wires c.wires-test.true _ (c.wires.invariant.value a) (c.in_ok-all.ensures.value a);
+  wire = c.in_ok-all.ensures.made.wire;
+  grows = grows_within (grows_then c.wires.invariant.grows c.in_ok-all.ensures.made.grows) (omega arith);
+  value = λ a. all_turn c.wires.wire-index c.wires.wire-index c.args.dag.now c.wires.dag c.and.new.self c.args.wires.now _ c.wires.all c.in_ok-all.all a c.wires.invariant.grows c.requires.wires c.wires-test.true _ (c.wires.invariant.value a) (c.in_ok-all.ensures.made.value a);
 }

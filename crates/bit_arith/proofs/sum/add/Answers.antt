@@ -2,7 +2,7 @@ use Rattle.std.proofs.Common.{arith, ◌+◌, ◌*◌, ap, sym, ◌∙◌, false
 use Rattle.std.proofs.lemmas.List.{length-map}
 use Rattle.bddl_model.specs.Circuit.{holds}
 use Rattle.bddl_model.specs.Words.{AreWires, word_bits}
-use Rattle.bddl_model.proofs.Growth.{grows_more}
+use Rattle.bddl_model.proofs.Growth.{grows_then, grows_within}
 use Rattle.bddl_model.proofs.WireWords.{word_stays, word_kept}
 use Rattle.bddl_model.proofs.WireItems.{word_push}
 use Rattle.bit_arith.proofs.Adding.{sum_end}
@@ -19,7 +19,7 @@ bits-preserved c =
       carry = c.in_ok-sum.ensures.wires.1;
       wires = subst (λ ws. AreWires c.sum_of.new.dag ws) (sym pushed) (word_push c.sum_of.new.dag c.bits.digits.items c.in_ok-sum.sum.digit (word_stays 3 _ _ c.bits.digits.items c.in_ok-sum.ensures.grows c.bits.invariant.wires) c.in_ok-sum.ensures.wires.0);
       length = ap length pushed ∙ length-append c.bits.digits.items (c.in_ok-sum.sum.digit ∷ []) ∙ ap (λ n. n + 1) c.bits.invariant.length;
-      grows = grows_more (3 * c.bits.i) 3 _ _ _ _ c.bits.invariant.grows c.in_ok-sum.ensures.grows (omega arith);
+      grows = grows_within (grows_then c.bits.invariant.grows c.in_ok-sum.ensures.grows) (omega arith);
       value = λ v. sum_word_turn 3 c.bits.i c.bits.dag c.sum_of.new.dag c.bits.digits.items _ c.bit_of-bit.result c.bits.carry c.in_ok-sum.sum.digit c.in_ok-sum.sum.carry (word_bits c.args.dag.now c.args.a.now v) _ c.bits.rest v
           c.in_ok-sum.ensures.grows c.bits.invariant.wires c.bits.invariant.length pushed
           (c.bit_of-bit.ensures.value v ∙ ap (λ bs. get_or bs c.bits.i false) (word_kept (3 * c.bits.i) _ _ c.args.a.now v c.bits.invariant.grows c.requires.a))

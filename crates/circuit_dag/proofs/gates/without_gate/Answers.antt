@@ -1,7 +1,7 @@
 use Rattle.std.proofs.Common.{refl, sym, ◌∙◌}
 use Rattle.std.specs.Cmp.{booleans_Decides}
 use Rattle.std.proofs.lemmas.Bool.{false≢true}
-use Rattle.bddl_model.proofs.Growth.{truth_held, left_false, left_true, right_false, right_true, opposite_wires}
+use Rattle.circuit_dag.proofs.WithoutGate.{truth_held, left_false, left_true, right_false, right_true, opposite_wires}
 use Rattle.circuit_dag.proofs.gates.without_gate.Goals as goal
 
 pub returns-then-left-clause-value : goal.returns-then-left-clause-value

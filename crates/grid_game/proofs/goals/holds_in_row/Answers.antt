@@ -1,4 +1,5 @@
 use Rattle.std.proofs.Common.{sym, arith}
+use Rattle.bddl_model.specs.Game.{line_atoms}
 use Rattle.bddl_model.proofs.Anchors.{rect_within}
 use Rattle.grid_game.proofs.Rows.{row_holds_by_one, row_fails_by_all}
 use Rattle.grid_game.proofs.goals.holds_in_row.Goals as goal
@@ -6,13 +7,13 @@ use Rattle.grid_game.proofs.goals.holds_in_row.Goals as goal
 pub overflow_add-x-end : goal.overflow_add-x-end
 overflow_add-x-end c =
     let size = c.keeps_the_size.ensures in
-    let within = rect_within c.args.board.now.width c.args.board.now.height c.args.line.now c.args.rect size.width size.height c.requires.rect in
+    let within = rect_within c.args.board.now.width c.args.board.now.height (line_atoms c.args.line.now) c.args.rect size.width size.height c.requires.rect in
     omega arith
 
 pub all_have_marks-requires-clause-anchor : goal.all_have_marks-requires-clause-anchor
 all_have_marks-requires-clause-anchor c =
     let size = c.keeps_the_size.ensures in
-    let within = rect_within c.args.board.now.width c.args.board.now.height c.args.line.now c.args.rect size.width size.height c.requires.rect in
+    let within = rect_within c.args.board.now.width c.args.board.now.height (line_atoms c.args.line.now) c.args.rect size.width size.height c.requires.rect in
     let row = c.requires.row in
     (omega arith, omega arith)
 

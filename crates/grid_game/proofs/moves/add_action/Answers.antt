@@ -5,7 +5,8 @@ use Rattle.bddl_model.specs.Game.{action_at}
 use Rattle.grid_game.specs.Listed.{marks_stand}
 use Rattle.grid_game.proofs.MoveAnchors.{rect_on_board, cells_inside}
 use Rattle.grid_game.proofs.MoveLegal.{acts_in, legal_rows}
-use Rattle.grid_game.proofs.MoveRows.{row_joins, row_is_short, first_row_has_room, other_rows_have_room}
+use Rattle.grid_game.proofs.MoveRanges.{first_has_room, others_have_room}
+use Rattle.grid_game.proofs.MoveRows.{row_joins, row_is_short}
 use Rattle.grid_game.proofs.moves.add_action.Goals as goal
 
 pub overflow_add-y-end : goal.overflow_add-y-end
@@ -33,15 +34,15 @@ add_row-requires-clause-small c =
 
 pub add_row-requires-clause-cells : goal.add_row-requires-clause-cells
 add_row-requires-clause-cells c =
-    rw (c.requires.size.0, c.requires.size.1, c.before-before.ensures) (λ x left right. cells_inside _ _ (action_at c.args.game.now c.args.side c.args.action).before (action_at c.args.game.now c.args.side c.args.action).effects c.action_rect-rect.result x _ c.action_rect-rect.ensures left right (omega arith) (omega arith))
+    rw (c.requires.size.0, c.requires.size.1, c.before-before.ensures) (λ x left right. cells_inside _ _ (action_at c.args.game.now c.args.side c.args.action) c.action_rect-rect.result x _ c.action_rect-rect.ensures (record { x_low = left; x_high = right; y_low = omega arith; y_high = omega arith }))
 
 pub add_row-requires-clause-room : goal.add_row-requires-clause-room
 add_row-requires-clause-room c =
     let g = c.args.game.now in
     let r = c.action_rect-rect.result in
     let on = rect_on_board _ _ _ r c.action_rect-rect.ensures in
-    let room = first_row_has_room (length c.loop-y.list.moves) (r.y_high + 1 - c.loop-y.y) g.width r.x_low r.x_high c.args.list.now.room on.x_low on.x_high (omega arith) c.loop-y.invariant.rest in
-    omega (arith, room, c.loop-y.invariant.room)
+    let room = first_has_room (length c.loop-y.list.moves) (r.y_high + 1 - c.loop-y.y) g.width c.args.list.now.room (omega arith) c.loop-y.invariant.rest in
+    omega (arith, room, c.loop-y.invariant.room, on.x_low, on.x_high)
 
 pub loop-y-preserved : goal.loop-y-preserved
 loop-y-preserved c =
@@ -53,6 +54,6 @@ loop-y-preserved c =
     let short = row_is_short (marks_stand c.args.board.now c.before-before.result.now) c.args.action c.loop-y.y r.x_low (r.x_high + 1 - r.x_low) c.loop-y.list.moves in
     record {
       moves = joins ∙ c.loop-y.invariant.moves;
-      rest = other_rows_have_room (length c.loop-y.list.moves) (length c.add_row.new.list.moves) (r.y_high + 1 - c.loop-y.y) (r.y_high + 1 - (c.loop-y.y + 1)) g.width r.x_low r.x_high c.args.list.now.room on.x_low on.x_high (omega arith) (rw c.add_row.ensures.moves short) c.loop-y.invariant.rest;
+      rest = others_have_room (length c.loop-y.list.moves) (length c.add_row.new.list.moves) (r.y_high + 1 - c.loop-y.y) (r.y_high + 1 - (c.loop-y.y + 1)) g.width c.args.list.now.room (omega arith) (omega (arith, ap length c.add_row.ensures.moves, short, on.x_low, on.x_high)) c.loop-y.invariant.rest;
       room = c.add_row.ensures.room ∙ c.loop-y.invariant.room;
     }

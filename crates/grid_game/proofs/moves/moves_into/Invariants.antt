@@ -9,6 +9,6 @@ use Rattle.grid_game.proofs.moves.moves_into.Given as goal
 abbrev pub invariant-loop-action : goal.invariant-loop-action
 invariant-loop-action l = record {
   moves : l.list.moves ++ filter (legal l.game l.board.marks l.side) (actions_moves l.game l.action (length (actions l.game l.side) - l.action)) ≡ moves l.game l.board.marks l.side;
-  rest : length l.list.moves + (length (actions l.game l.side) - l.action) * l.game.width * l.game.height ≤ l.fn.list.room;
+  rest : length l.list.moves + (length (actions l.game l.side) - l.action) * (l.game.width * l.game.height) ≤ l.fn.list.room;
   room : l.list.room ≡ l.fn.list.room;
 }

@@ -1,17 +1,12 @@
-use Rattle.std.proofs.Common.{◌++◌, [], ◌∙◌, sym}
+use Rattle.std.proofs.Common.{◌∙◌, sym}
 use Rattle.std.proofs.lemmas.List.{append-nil}
 use Rattle.std.proofs.lemmas.Result.{err_from_is_err_and}
-use Rattle.bddl_model.specs.declared.check.Item.TheVariants as item
 use Rattle.offset_check.proofs.Faults.{last_of_three, stops_same}
-use Rattle.offset_check.proofs.AnchorFound.{made_fault}
 use Rattle.offset_check.proofs.lines.add_line.Goals as goal
 
 pub returns-in_err-check_fits-clause-checks : goal.returns-in_err-check_fits-clause-checks
 returns-in_err-check_fits-clause-checks c =
-    let a = c.args in
-    let i = item.Line a.side a.number in
-    let made = made_fault i c.width-width.result c.height-height.result a.atoms.now (c.deref.result.now ++ []) (append-nil c.deref.result.now ∙ c.deref.ensures.value ∙ c.in_ok-line.ensures) in
     let last = last_of_three _ _ _ c.in_ok-check_length.ensures c.in_ok-check_atoms.ensures in
-    let stop = stops_same _ _ _ (made ∙ sym last) c.in_err-check_fits.ensures.checks in
+    let stop = rw (append-nil, c.deref.ensures.value ∙ c.in_ok-line.ensures) at c.in_err-check_fits.ensures.checks in
     let end = err_from_is_err_and c.from_residual-in_err-check_fits.result c.from_residual-in_err-check_fits.ensures.1 in
-    rw (end.1, end.2, sym c.width-width.ensures.value, sym c.height-height.ensures.value) stop
+    rw (end.1, end.2, sym c.width-width.ensures.value, sym c.height-height.ensures.value) (stops_same _ _ _ (sym last) stop)

@@ -1,5 +1,5 @@
 use Rattle.std.proofs.Common.{[], ◌∷◌, ◌++◌, refl, sym, ap, ◌∙◌}
-use Rattle.bddl_model.proofs.Prenexing.{behind_blocks, merged_more}
+use Rattle.prenexer.proofs.Prenexing.{behind_blocks, merged_more}
 use Rattle.prenexer.proofs.Joined.{same_quants, empty_behind, joined_last, apart_last, first_of_all}
 use Rattle.prenexer.proofs.merge.add_block.Goals as goal
 use Rattle.prenexer.proofs.merge.add_block.Goals.{in_default-via-in-Some+else-eq, in_default-via-in-None-1}

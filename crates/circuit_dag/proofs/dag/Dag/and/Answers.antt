@@ -1,7 +1,7 @@
-use Rattle.std.proofs.Common.{◌≡◌, ◌<◌, ◌+◌, ◌-◌, ◌&&◌, suc, Some, Ok, rules, refl, sym, ap, ◌∙◌, subst, arith}
+use Rattle.std.proofs.Common.{◌≡◌, ◌+◌, ◌-◌, ◌&&◌, suc, Some, Ok, rules, refl, sym, ap, ◌∙◌, subst, arith}
 use Rattle.std.proofs.lemmas.Bool.{false≢true}
-use Rattle.bddl_model.specs.Circuit.{Circuit, nodes_of, IsWire, holds}
-use Rattle.bddl_model.specs.Growth.{Grows}
+use Rattle.bddl_model.specs.Circuit.{Circuit, IsWire, holds}
+use Rattle.bddl_model.specs.Growth.{HasRoom, Grows}
 use Rattle.circuit_dag.specs.Gates.{gate_of, gate_at, wire_of, Shares}
 use Rattle.circuit_dag.proofs.Places.{at_place, standing_found, standing_needed}
 use Rattle.circuit_dag.proofs.Inserted.{Inserted, inserted, AfterGate, after_gate}
@@ -22,7 +22,7 @@ after c =
     after_gate (before c) c.args.left c.args.right c.insert_full.new.self.keys c.in_ok-place.place (sym c.in_default.ensures.none) c.self.invariant
     (subst (λ v. IsWire v c.args.left) (sym c.self.view_is) c.requires.left)
     (subst (λ v. IsWire v c.args.right) (sym c.self.view_is) c.requires.right)
-    (subst (λ v. nodes_of v < 16777215) (sym c.self.view_is) c.requires.room)
+    (subst (λ v. HasRoom v 1) (sym c.self.view_is) c.requires.room)
     c.in_ok-place.ensures.unique (put c)
 
 -- the node of the place
@@ -32,11 +32,12 @@ node_is c = omega arith
 pub invariant_of-self-2 : goal.invariant_of-self-2
 invariant_of-self-2 c = (after c).shared
 
-pub returns-clause-value : goal.returns-clause-value
-returns-clause-value c a = (after c).value _ a (node_is c) refl ∙ ap (λ v. holds v c.args.left a && holds v c.args.right a) c.self.view_is
-
-pub returns-clause-grows : goal.returns-clause-grows
-returns-clause-grows c = subst (λ v. Grows 1 v (record { inputs = c.self.inside.inputs; gates = c.insert_full.new.self.keys })) c.self.view_is (after c).grows
+pub returns-clause-made : goal.returns-clause-made
+returns-clause-made c = record {
+  wire = search rules;
+  value = λ a. (after c).value _ a (node_is c) refl ∙ ap (λ v. holds v c.args.left a && holds v c.args.right a) c.self.view_is;
+  grows = subst (λ v. Grows 1 v (record { inputs = c.self.inside.inputs; gates = c.insert_full.new.self.keys })) c.self.view_is (after c).grows;
+}
 
 -- where the wires need no gate, no node is their gate
 pub returns-in-Some-clause-shared : goal.returns-in-Some-clause-shared

@@ -1,5 +1,5 @@
 use Rattle.std.proofs.Common.{refl}
-use Rattle.bddl_model.proofs.Growth.{input_held}
+use Rattle.circuit_dag.proofs.WithoutGate.{input_held}
 use Rattle.circuit_dag.proofs.dag.Dag.input.Goals as goal
 
 pub returns-clause-value : goal.returns-clause-value

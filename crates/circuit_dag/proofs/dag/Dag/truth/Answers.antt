@@ -1,5 +1,5 @@
 use Rattle.std.proofs.Common.{refl}
-use Rattle.bddl_model.proofs.Growth.{truth_held}
+use Rattle.circuit_dag.proofs.WithoutGate.{truth_held}
 use Rattle.circuit_dag.proofs.dag.Dag.truth.Goals as goal
 
 pub returns-clause-value : goal.returns-clause-value

@@ -1,0 +1,56 @@
+// The table of commands.
+ghost use Rattle.std.specs.Prelude.{◌≡◌, ◌≤◌, length};
+ghost use Rattle.bddl_model.specs.Request as spec;
+
+use bddl_model::Command;
+
+// The most bytes of a game file.
+const GAME: Option<u64> = Some(1_048_576);
+
+/// The command that a word names.
+pub fn named(word: &[u8]) -> Option<Command>
+    ensures { result ≡ spec.first_named word.now spec.commands }
+{
+    if word == b"compile".as_slice() {
+        return Some(Command::Compile);
+    }
+    if word == b"fmt-domain".as_slice() {
+        return Some(Command::FormatDomain);
+    }
+    if word == b"fmt-problem".as_slice() {
+        return Some(Command::FormatProblem);
+    }
+    if word == b"help".as_slice() || word == b"--help".as_slice() {
+        return Some(Command::Help);
+    }
+    if word == b"version".as_slice() || word == b"--version".as_slice() {
+        return Some(Command::Version);
+    }
+    None
+}
+
+/// The files that a command takes, by the most bytes that each may have, if there is such a number.
+pub fn limits_of(command: Command) -> &'static [Option<u64>]
+    ensures table { result.now ≡ spec.limits_of command }
+    ensures few { length result.now ≤ 3 }
+{
+    match command {
+        Command::Compile => &[GAME, GAME],
+        Command::FormatDomain | Command::FormatProblem => &[GAME],
+        Command::Help | Command::Version => &[],
+    }
+}
+
+/// How many numbers follow the files.
+pub fn numbers_of(command: Command) -> usize
+    ensures table { result ≡ spec.numbers_of command }
+    ensures few { result ≤ 2 }
+{
+    match command {
+        Command::Compile
+        | Command::FormatDomain
+        | Command::FormatProblem
+        | Command::Help
+        | Command::Version => 0,
+    }
+}

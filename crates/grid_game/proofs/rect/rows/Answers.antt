@@ -1,9 +1,0 @@
-use Rattle.bddl_model.specs.declared.game.Atom.{Atom}
-use Rattle.bddl_model.proofs.Rectangle.{least_anchor_more, greatest_anchor_more}
-use Rattle.grid_game.proofs.rect.rows.Goals as goal
-
-pub loop-atom-preserved : goal.loop-atom-preserved
-loop-atom-preserved c = record {
-  low = least_anchor_more (λ (a : Atom). a.y) c.args.atoms.now _ _ _ _ c.loop-atom-test.true c.loop-atom.invariant.low c.narrowed-range.ensures.low;
-  high = greatest_anchor_more c.args.height (λ (a : Atom). a.y) c.args.atoms.now _ _ _ _ c.loop-atom-test.true c.loop-atom.invariant.high c.narrowed-range.ensures.high;
-}

@@ -1,0 +1,56 @@
+use super::*;
+use bddl_model::Mark;
+
+fn atom(mark: Mark, x: Term, y: Term) -> Atom {
+    Atom { mark, x, y }
+}
+
+fn rect(x_low: u32, x_high: u32, y_low: u32, y_high: u32) -> Option<Rect> {
+    Some(Rect {
+        x_low,
+        x_high,
+        y_low,
+        y_high,
+    })
+}
+
+#[test]
+fn both_lists_narrow_the_board(rt: HostRuntime) {
+    let right = [atom(Mark::Black, Term::Rel(1), Term::Rel(0))];
+    let left = [atom(Mark::White, Term::Rel(-1), Term::Abs(1))];
+    let above = [atom(Mark::Free, Term::Rel(0), Term::Rel(-1))];
+    assert_eq!(rt; rect_of(3, 2, &[], &[]), rect(1, 3, 1, 2));
+    assert_eq!(rt; rect_of(3, 2, &right, &[]), rect(1, 2, 1, 2));
+    assert_eq!(rt; rect_of(3, 2, &[], &left), rect(2, 3, 1, 2));
+    assert_eq!(rt; rect_of(3, 2, &right, &left), rect(2, 2, 1, 2));
+    assert_eq!(rt; rect_of(3, 2, &above, &left), rect(2, 3, 2, 2));
+    assert_eq!(rt; rect_of(2, 2, &left, &right), None);
+}
+
+#[test]
+fn the_longest_shift_leaves_one_column(rt: HostRuntime) {
+    for (shift, want) in [
+        (15, rect(1, 1, 1, 16)),
+        (-15, rect(16, 16, 1, 16)),
+        (16, None),
+        (-16, None),
+        (i32::MAX, None),
+        (i32::MIN, None),
+    ] {
+        let far = [atom(Mark::Free, Term::Rel(shift), Term::Rel(0))];
+        assert_eq!(rt; rect_of(16, 16, &[], &far), want, "at {shift}");
+    }
+}
+
+#[test]
+fn a_number_off_the_side_fits_nowhere(rt: HostRuntime) {
+    for (number, want) in [
+        (0, None),
+        (1, rect(1, 3, 1, 2)),
+        (2, rect(1, 3, 1, 2)),
+        (3, None),
+    ] {
+        let row = [atom(Mark::Free, Term::Rel(0), Term::Abs(number))];
+        assert_eq!(rt; rect_of(3, 2, &row, &[]), want, "at {number}");
+    }
+}

@@ -1,0 +1,11 @@
+//! The text of a form in the QDIMACS format.
+//!
+//! `write_qdimacs` puts the one text that is written for a form, or a front of it where the sink
+//! refuses. Read `qtext` in `bddl_model/specs/FormulaText.antt` first.
+#![tactic(auto)]
+
+#[cfg(test)]
+mod tests;
+mod write;
+
+pub use write::write_qdimacs;
