@@ -8,7 +8,7 @@ use Rattle.bddl_model.specs.declared.texts.ActionText.{ActionText}
 use Rattle.bddl_model.specs.declared.texts.DomainText.{DomainText}
 use Rattle.bddl_model.specs.Bytes.{is_name_byte}
 use Rattle.bddl_model.specs.Meanings.{is_name}
-use Rattle.bddl_model.specs.Canonical.{atoms_can_be_spelled, action_can_be_spelled, domain_can_be_spelled}
+use Rattle.bddl_model.specs.Canonical.{atoms_can_be_spelled, tests_can_be_spelled, action_can_be_spelled, domain_can_be_spelled}
 use Rattle.offset_check.specs.Checks.{AreNamed}
 
 name_fits : (name : List ℕ) → is_name name ≡ true → (1 ≤ length name) × (length name ≤ 32)
@@ -19,7 +19,7 @@ name_fits (b ∷ name) h =
     (omega arith, leb-true (length (b ∷ name)) 32 short.1)
 
 spelled_name : (a : ActionText) → action_can_be_spelled a ≡ true → (1 ≤ length a.name) × (length a.name ≤ 32)
-spelled_name a h = name_fits a.name (and_parts (is_name a.name) (atoms_can_be_spelled a.before && atoms_can_be_spelled a.effects) h).0
+spelled_name a h = name_fits a.name (and_parts (is_name a.name) (tests_can_be_spelled a.before && atoms_can_be_spelled a.effects) h).0
 
 all_named : (actions : List ActionText) → list_all action_can_be_spelled actions ≡ true → AreNamed actions
 all_named actions h k d within = spelled_name (get_or actions k d) (AllPass-from_list_all action_can_be_spelled actions h k d within)

@@ -1,9 +1,10 @@
-// Which games are built: those of a start board alone, with goal lines in plain numbers.
+// Which games are built: those of a start board alone, with goal lines in plain numbers and no test
+// negated.
 ghost use Rattle.std.specs.Prelude.{◌≡◌, ◌↔◌, IsTrue};
 ghost use Rattle.std.specs.List.{list_all};
 ghost use Rattle.bddl_model.specs.Start.{IsStartProblem, in_numbers, is_number, no_actions};
 
-use bddl_model::{AtomList, AtomText, DomainText, ProblemText, TermText};
+use bddl_model::{DomainText, ProblemText, TermText, TestList, TestText};
 
 /// Whether a domain has no action.
 pub fn has_no_actions(tree: &DomainText) -> bool
@@ -18,21 +19,20 @@ fn is_number(term: TermText) -> bool
     matches!(term, TermText::Number(_))
 }
 
-fn in_numbers(atoms: &[AtomText]) -> bool
-    ensures { result ≡ list_all in_numbers atoms.now }
+fn in_numbers(tests: &[TestText]) -> bool
+    ensures { result ≡ list_all in_numbers tests.now }
 {
-    atoms
-        .iter()
-        .all(|atom| is_number(atom.x) && is_number(atom.y))
+    tests.iter().all(|test| !test.negated && is_number(test.atom.x) && is_number(test.atom.y))
 }
 
-fn are_in_numbers(lines: &[AtomList]) -> bool
+fn are_in_numbers(lines: &[TestList]) -> bool
     ensures { result ≡ list_all (list_all in_numbers) lines.now }
 {
     lines.iter().all(|line| in_numbers(line.as_slice()))
 }
 
-/// Whether a problem asks for the start board alone, with goal lines in plain numbers.
+/// Whether a problem asks for the start board alone, with goal lines in plain numbers and no test
+/// negated.
 pub fn is_start_problem(tree: &ProblemText) -> bool
     ensures { IsTrue result ↔ IsStartProblem tree.now }
 {

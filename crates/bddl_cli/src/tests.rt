@@ -67,15 +67,19 @@ fn lines_behind_head(text: &[u8]) -> Result<&str, Fail> {
 
 #[test]
 fn boards_of_all_sizes_compile(rt: HostRuntime) -> Result<(), Fail> {
-    let cases: [(&[u8], &str); 4] = [
+    let cases: [(&[u8], &str); 5] = [
         (PROBLEM, "e 1 2 0\n"),
         (
             b"#boardsize 3 2 #init () #depth 0 #blackgoals #whitegoals",
             "e 1 2 3 4 0\na 5 6 7 0\ne 8 ",
         ),
         (
-            b"#boardsize 16 16 #init () #depth 0 #blackgoals #whitegoals",
+            b"#boardsize 16 16 #init () #depth 0 #first white #blackgoals #whitegoals",
             "e 1 2 3 4 5 6 7 8 9 0\na 10 11 12 13 14 15 16 17 0\ne 18 ",
+        ),
+        (
+            b"#boardsize 64 64 #init () #depth 0 #blackgoals #whitegoals",
+            "e 1 2 3 4 5 6 7 8 9 10 11 12 13 0\na 14 15 16 17 18 19 20 21 22 23 24 25 0\ne 26 ",
         ),
         (
             b";\r\n\t#boardsize 02 01;a board\n#init( ) #depth 000\n#blackgoals\r#whitegoals ; no line feed",

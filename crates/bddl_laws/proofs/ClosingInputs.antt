@@ -3,7 +3,7 @@ use Rattle.std.proofs.Common.{◌≡◌, ℕ, ◌≤◌, ◌<◌, ◌+◌, ◌-�
 use Rattle.bddl_model.specs.declared.formula.Quant.TheVariants.{Exists, All}
 use Rattle.bddl_model.specs.declared.formula.Span.{Span}
 use Rattle.bddl_model.specs.declared.game.Side.TheVariants.{Black, White}
-use Rattle.bddl_model.specs.declared.game.Atom.{Atom}
+use Rattle.bddl_model.specs.declared.game.Test.{Test}
 use Rattle.bddl_model.specs.Truth.{Assignment}
 use Rattle.bddl_model.specs.Bits.{bits, number_at}
 use Rattle.bddl_model.specs.Game.{Game}
@@ -120,7 +120,7 @@ module _ (s : Setup) where
   has_bits : (s.game.white_lines ≡ []) ⊎ HasBits
   has_bits = at s.game.white_lines refl
     where
-      at : (ls : List (List Atom)) → s.game.white_lines ≡ ls → (ls ≡ []) ⊎ ((where_lines s.game.white_lines (anchor_bits s.game) ≡ anchor_bits s.game) × (where_lines s.game.white_lines (bits (s.depth + 1)) ≡ bits (s.depth + 1)))
+      at : (ls : List (List Test)) → s.game.white_lines ≡ ls → (ls ≡ []) ⊎ ((where_lines s.game.white_lines (anchor_bits s.game) ≡ anchor_bits s.game) × (where_lines s.game.white_lines (bits (s.depth + 1)) ≡ bits (s.depth + 1)))
       at [] e = inl refl
       at (l ∷ ls) e = inr (ap (λ x. where_lines x (anchor_bits s.game)) e, ap (λ x. where_lines x (bits (s.depth + 1))) e)
 

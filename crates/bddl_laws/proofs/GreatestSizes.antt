@@ -1,5 +1,5 @@
--- The units and the gate limit of a game within the limits, where Black moves first.
-use Rattle.std.proofs.Common.{◌≡◌, ℕ, zero, suc, ◌≤◌, ◌+◌, ◌*◌, ◌/◌, List, length, subst, arith}
+-- The units and the gate limit of a game within the limits.
+use Rattle.std.proofs.Common.{◌≡◌, ℕ, zero, suc, ◌≤◌, ◌+◌, ◌*◌, ◌/◌, List, length, arith}
 use Rattle.std.specs.Prelude.{All, not}
 use Rattle.std.specs.List.{sum_by}
 use Rattle.std.proofs.lemmas.List.Sums.{sum_by-le, count_by-le-length}
@@ -23,10 +23,10 @@ sum_within f most count xs each few =
     let product = mul-le (length xs) most count most few (omega arith) in
     omega (arith, sum, product)
 
-pub anchor_within : (g : Game) → IsGame g → anchor_bits g ≤ 8
+pub anchor_within : (g : Game) → IsGame g → anchor_bits g ≤ 12
 anchor_within g is =
-    let x = bits_most g.width 4 is.width.1 in
-    let y = bits_most g.height 4 is.height.1 in
+    let x = bits_most g.width 6 is.width.1 in
+    let y = bits_most g.height 6 is.height.1 in
     omega (arith, x, y)
 
 -- ---- units
@@ -39,8 +39,8 @@ white_ply g is = sum_within (action_units White) 24 8 g.white_actions (λ k d lt
 
 goals_within : (g : Game) → IsGame g → goal_units g ≤ 9216
 goals_within g is =
-    let black = sum_within line_units 18 256 g.black_lines (λ k d lt. let l = is.black.each_line k d lt in omega (arith, l.atoms)) is.black.few_lines in
-    let white = sum_within line_units 18 256 g.white_lines (λ k d lt. let l = is.white.each_line k d lt in omega (arith, l.atoms)) is.white.few_lines in
+    let black = sum_within line_units 18 256 g.black_lines (λ k d lt. let l = is.black.each_line k d lt in omega (arith, l.tests)) is.black.few_lines in
+    let white = sum_within line_units 18 256 g.white_lines (λ k d lt. let l = is.white.each_line k d lt in omega (arith, l.tests)) is.white.few_lines in
     omega (arith, black, white)
 
 -- by the side that moves first
@@ -54,18 +54,23 @@ plies_within g White zero is = omega arith
 plies_within g Black (suc n) is = let here = black_ply g is in let later = plies_within g White n is in omega (arith, here, later)
 plies_within g White (suc n) is = let here = white_ply g is in let later = plies_within g Black n is in omega (arith, here, later)
 
-module _ (s : Setup) (is : IsGame s.game) (board : length s.board ≡ s.game.height * s.game.width) (first : s.first ≡ Black) (short : s.depth ≤ 31) where
-  pub units_within : units_of s ≤ 14273
+-- White has one ply more than Black where it moves first
+plies_at_most : (g : Game) (first : Side) (n : ℕ) → IsGame g → n ≤ 31 → plies_units g first n ≤ 4752
+plies_at_most g Black n is short = omega (arith, plies_within g Black n is)
+plies_at_most g White n is short = omega (arith, plies_within g White n is)
+
+module _ (s : Setup) (is : IsGame s.game) (board : length s.board ≡ s.game.height * s.game.width) (short : s.depth ≤ 31) where
+  pub units_within : units_of s ≤ 18193
   unfolding units
   units_within =
-      let black : plies_units s.game s.first s.depth ≤ plies_most Black 112 192 s.depth = subst (λ side. plies_units s.game s.first s.depth ≤ plies_most side 112 192 s.depth) first (plies_within s.game s.first s.depth is) in
+      let plies = plies_at_most s.game s.first s.depth is short in
       let goals = goals_within s.game is in
-      let cells = mul-le s.game.height s.game.width 16 16 is.height.1 is.width.1 in
+      let cells = mul-le s.game.height s.game.width 64 64 is.height.1 is.width.1 in
       let filled = count_by-le-length (λ m. not (same_mark m marks.Free)) s.board in
-      omega (arith, black, goals, cells, filled, board, short)
+      omega (arith, plies, goals, cells, filled, board, short)
 
-  pub gates_within : gate_limit s ≤ 4795728
+  pub gates_within : gate_limit s ≤ 7859376
   unfolding gate_limit
   gates_within =
-      let anchor : 24 * (anchor_bits s.game + 6) ≤ 336 = omega (arith, anchor_within s.game is) in
-      mul-le (24 * (anchor_bits s.game + 6)) (units_of s) 336 14273 anchor units_within
+      let anchor : 24 * (anchor_bits s.game + 6) ≤ 432 = omega (arith, anchor_within s.game is) in
+      mul-le (24 * (anchor_bits s.game + 6)) (units_of s) 432 18193 anchor units_within

@@ -13,9 +13,9 @@ use Rattle.bddl_model.specs.Game.{Game, actions, side_after}
 use Rattle.bddl_model.specs.Moves.{legal}
 use Rattle.bddl_model.specs.Goal.{goal}
 use Rattle.bddl_model.specs.Setup.{Setup}
-use Rattle.bddl_model.specs.Layout.{Sizes, sizes_of, ply_at, bounds, end, most_atoms, most_preconditions}
+use Rattle.bddl_model.specs.Layout.{Sizes, sizes_of, ply_at, bounds, end, most_tests, most_preconditions}
 use Rattle.bddl_model.specs.Exact.{coded_move, own_code, position, ply_from, PlaysFrom}
-use Rattle.bddl_model.specs.Conditions.{Test, Claim, Attack, is_white, conditions}
+use Rattle.bddl_model.specs.Conditions.{PlacedTest, Claim, Attack, is_white, conditions}
 use Rattle.bddl_model.proofs.Assignments.{SameOutside, same_at_all}
 use Rattle.bddl_model.proofs.Blocks.{SameBelow, below_block}
 use Rattle.bddl_model.proofs.Bits.{bits_enough}
@@ -33,7 +33,7 @@ some_number : (n : ℕ) → 0 < 2 ^ n
 some_number n = omega (arith, number_below n 0 (λ v. false))
 
 -- 0 or the number of a test, in bits for that many tests
-number_fits : (o : Option (List Test)) (n most : ℕ) → tests_in o ≤ most → IsNumberIn o n → n < 2 ^ bits most
+number_fits : (o : Option (List PlacedTest)) (n most : ℕ) → tests_in o ≤ most → IsNumberIn o n → n < 2 ^ bits most
 number_fits o n most le (inl e) = omega (arith, some_number (bits most))
 number_fits o n most le (inr lt) = omega (arith, bits_enough most)
 
@@ -139,7 +139,7 @@ module _ (s : Setup) (out : Assignment → Bool) (met : MeetsConditions s out) (
   serves : (c : Assignment) → SameOutside claim_bounds a c → ((w : Attack) → LineOf (IsLine g White) w.line → Answers (claim_read s c) w) → served ≡ true
   serves c sc f = some_claim_serves (claim_span s) (attack_span s) (layout_of s).refuting (layout_of s).place out a c sc (λ w sw.
       let n = f (attack_read s w) (line_is_one g White _ _) in
-      let r = writes_refuting s w n.0 (number_fits (attack_read s w).line n.0 (most_atoms g.white_lines) (line_count g White _ _) n.1) in (
+      let r = writes_refuting s w n.0 (number_fits (attack_read s w).line n.0 (most_tests g.white_lines) (line_count g White _ _) n.1) in (
         r.0,
         r.1,
         λ y sy.

@@ -3,8 +3,8 @@ use Rattle.std.proofs.Common.{◌≡◌, ℕ, zero, suc, ◌≤◌, ◌<◌, Boo
 use Rattle.std.proofs.lemmas.Bool.{or_from, or_left, or_right, and_from, and_left, and_right, cases_lt, le-leb, lt-leb, false≢true}
 use Rattle.std.specs.List.{list_all}
 use Rattle.bddl_model.specs.declared.game.Mark.{Mark}
-use Rattle.bddl_model.specs.Conditions.{Cell, Test, Ply, Claim, Attack, passes_at, all_pass_at, one_differs_at, each_below, is_white, is_refused, in_time, moves_pass, goal_claimed, illegal_claimed, claim_holds, is_answered, conditions}
-use Rattle.bddl_laws.proofs.Tests.{Marks, all_hold, tests_hold, AllCells, TestCells, all_pass, failing, none_differs}
+use Rattle.bddl_model.specs.Conditions.{Cell, PlacedTest, Ply, Claim, Attack, passes_at, all_pass_at, one_fails_at, each_below, is_white, is_refused, in_time, moves_pass, goal_claimed, illegal_claimed, claim_holds, is_answered, conditions}
+use Rattle.bddl_laws.proofs.Tests.{Marks, all_hold, tests_hold, AllCells, TestCells, all_pass, failing, none_fails}
 
 pub each_from : (n : ℕ) (test : ℕ → Bool) → ((i : ℕ) → i < n → test i ≡ true) → each_below n test ≡ true
 each_from zero test h = refl
@@ -48,27 +48,27 @@ illegal_claim plies marks c p kind = rw kind
 
 -- ---- a position
 
-abbrev pub LineOf : (List Test → Type 0) → Option (List Test) → Type 0
+abbrev pub LineOf : (List PlacedTest → Type 0) → Option (List PlacedTest) → Type 0
 LineOf Line None = Unit {0}
 LineOf Line (Some ts) = Line ts
 
-abbrev pub NoneHolds : (List Test → Type 0) → Marks → Type 0
-NoneHolds Line board = (ts : List Test) → Line ts → all_hold board ts ≡ false
+abbrev pub NoneHolds : (List PlacedTest → Type 0) → Marks → Type 0
+NoneHolds Line board = (ts : List PlacedTest) → Line ts → all_hold board ts ≡ false
 
-abbrev pub tests_in : Option (List Test) → ℕ
+abbrev pub tests_in : Option (List PlacedTest) → ℕ
 tests_in None = 0
 tests_in (Some ts) = length ts
 
 -- 0, or the number of a test
-abbrev pub IsNumberIn : Option (List Test) → ℕ → Type 0
+abbrev pub IsNumberIn : Option (List PlacedTest) → ℕ → Type 0
 IsNumberIn o n = (n ≡ 0) ⊎ (n < tests_in o)
 
 -- so many legal plies were played, and no goal stood on the boards before the last; `Place` tells the places that can be named
-pub record History (Place : Cell → Type 0) (BlackLine WhiteLine : List Test → Type 0) (depth played : ℕ) (plies : ℕ → Ply) (boards : ℕ → Marks) : Type 0 where
+pub record History (Place : Cell → Type 0) (BlackLine WhiteLine : List PlacedTest → Type 0) (depth played : ℕ) (plies : ℕ → Ply) (boards : ℕ → Marks) : Type 0 where
   pub within : played ≤ depth
   pub some_place : (p : Cell) × Place p
-  pub black_cells : (ts : List Test) → BlackLine ts → AllCells Place ts
-  pub white_cells : (ts : List Test) → WhiteLine ts → AllCells Place ts
+  pub black_cells : (ts : List PlacedTest) → BlackLine ts → AllCells Place ts
+  pub white_cells : (ts : List PlacedTest) → WhiteLine ts → AllCells Place ts
   pub own_cells : (i : ℕ) → TestCells Place (plies i).own
   pub code_cells : (i : ℕ) → TestCells Place (plies i).code
   pub own_legal : (i : ℕ) → i < played → tests_hold (boards i) (plies i).own ≡ true
@@ -76,7 +76,7 @@ pub record History (Place : Cell → Type 0) (BlackLine WhiteLine : List Test �
   pub no_black : (i : ℕ) → i < played → NoneHolds BlackLine (boards i)
   pub no_white : (i : ℕ) → i < played → NoneHolds WhiteLine (boards i)
 
-module _ (Place : Cell → Type 0) (BlackLine WhiteLine : List Test → Type 0) (depth k : ℕ) (plies : ℕ → Ply) (boards : ℕ → Marks) (h : History Place BlackLine WhiteLine depth k plies boards) where
+module _ (Place : Cell → Type 0) (BlackLine WhiteLine : List PlacedTest → Type 0) (depth k : ℕ) (plies : ℕ → Ply) (boards : ℕ → Marks) (h : History Place BlackLine WhiteLine depth k plies boards) where
   -- up to the last board the marks are those of the boards
   abbrev pub AreShown : Cell → (ℕ → Mark) → Type 0
   AreShown p marks = (i : ℕ) → i ≤ k → marks i ≡ boards i p
@@ -91,29 +91,29 @@ module _ (Place : Cell → Type 0) (BlackLine WhiteLine : List Test → Type 0) 
 
   -- ---- tests at a moment up to the last
 
-  holding_pass : (o : Option (List Test)) (i : ℕ) → i ≤ k → tests_hold (boards i) o ≡ true → (p : Cell) (marks : ℕ → Mark) → AreShown p marks → all_pass_at p (marks i) o ≡ true
+  holding_pass : (o : Option (List PlacedTest)) (i : ℕ) → i ≤ k → tests_hold (boards i) o ≡ true → (p : Cell) (marks : ℕ → Mark) → AreShown p marks → all_pass_at p (marks i) o ≡ true
   holding_pass None i le l p marks m = absurd (false≢true l)
   holding_pass (Some ts) i le l p marks m = ap (λ x. list_all (passes_at p x) ts) (m i le) ∙ all_pass (boards i) ts p l
 
-  failing_stop : (o : Option (List Test)) (i : ℕ) → i ≤ k → TestCells Place o → tests_hold (boards i) o ≡ false → (p : Cell) × Place p × ((marks : ℕ → Mark) → AreShown p marks → all_pass_at p (marks i) o ≡ false)
+  failing_stop : (o : Option (List PlacedTest)) (i : ℕ) → i ≤ k → TestCells Place o → tests_hold (boards i) o ≡ false → (p : Cell) × Place p × ((marks : ℕ → Mark) → AreShown p marks → all_pass_at p (marks i) o ≡ false)
   failing_stop None i le on l = let s = h.some_place in (s.0, s.1, λ marks m. refl)
   failing_stop (Some ts) i le on l =
       let f = failing Place (boards i) ts on l in
       (f.cell, f.place, λ marks m. ap (λ x. list_all (passes_at f.cell x) ts) (m i le) ∙ f.stops)
 
   -- a legal code is refused by no number
-  legal_not_refused : (o : Option (List Test)) (i n : ℕ) → i ≤ k → TestCells Place o → tests_hold (boards i) o ≡ true → (p : Cell) × Place p × ((marks : ℕ → Mark) → AreShown p marks → is_refused p (marks i) n o ≡ false)
+  legal_not_refused : (o : Option (List PlacedTest)) (i n : ℕ) → i ≤ k → TestCells Place o → tests_hold (boards i) o ≡ true → (p : Cell) × Place p × ((marks : ℕ → Mark) → AreShown p marks → is_refused p (marks i) n o ≡ false)
   legal_not_refused None i n le on l = absurd (false≢true l)
   legal_not_refused (Some ts) i n le on l =
-      let x = none_differs Place (boards i) ts n h.some_place on l in
-      (x.0, x.1, λ marks m. ap (λ y. one_differs_at x.0 y n ts) (m i le) ∙ x.2)
+      let x = none_fails Place (boards i) ts n h.some_place on l in
+      (x.0, x.1, λ marks m. ap (λ y. one_fails_at x.0 y n ts) (m i le) ∙ x.2)
 
   -- an illegal one is by some number
-  pub refusing_number : (o : Option (List Test)) → TestCells Place o → tests_hold (boards k) o ≡ false → (n : ℕ) × IsNumberIn o n × ((p : Cell) (marks : ℕ → Mark) → AreShown p marks → is_refused p (marks k) n o ≡ true)
+  pub refusing_number : (o : Option (List PlacedTest)) → TestCells Place o → tests_hold (boards k) o ≡ false → (n : ℕ) × IsNumberIn o n × ((p : Cell) (marks : ℕ → Mark) → AreShown p marks → is_refused p (marks k) n o ≡ true)
   refusing_number None on l = (0, inl refl, λ p marks m. refl)
   refusing_number (Some ts) on l =
       let f = failing Place (boards k) ts on l in
-      (f.number, inr f.below, λ p marks m. ap (λ x. one_differs_at p x f.number ts) (m k (omega arith)) ∙ f.differs p)
+      (f.number, inr f.below, λ p marks m. ap (λ x. one_fails_at p x f.number ts) (m k (omega arith)) ∙ f.fails p)
 
   plies_pass : (p : Cell) (marks : ℕ → Mark) → AreShown p marks → moves_pass plies marks k p ≡ true
   plies_pass p marks m = each_from k _ (λ i lt. holding_pass (plies i).own i (omega arith) (h.own_legal i lt) p marks m)
@@ -123,19 +123,19 @@ module _ (Place : Cell → Type 0) (BlackLine WhiteLine : List Test → Type 0) 
       → (r : ℕ) × IsNumberIn w.line r × ((p : Cell) (marks : ℕ → Mark) → AreShown p marks → is_answered marks w T r p ≡ true)
   reply T quiet w f = at w.line w.time refl refl f (cases_lt w.time T)
     where
-      at : (o : Option (List Test)) (t : ℕ) → w.line ≡ o → w.time ≡ t → LineOf WhiteLine o → (t < T) ⊎ (T ≤ t)
+      at : (o : Option (List PlacedTest)) (t : ℕ) → w.line ≡ o → w.time ≡ t → LineOf WhiteLine o → (t < T) ⊎ (T ≤ t)
           → (r : ℕ) × IsNumberIn o r × ((p : Cell) (marks : ℕ → Mark) → AreShown p marks → is_answered marks (record { line = o; time = t }) T r p ≡ true)
       at None t e d f c = (0, inl refl, λ p marks m. refl)
       at (Some ts) t e d f (inr le) = (0, inl refl, λ p marks m. or_left _ _ (ap not (le-ltb t T le)))
       at (Some ts) t e d f (inl lt) =
           let n = quiet t lt in
           let g = failing Place (boards t) ts (h.white_cells ts f) (n.1 ts f) in
-          (g.number, inr g.below, λ p marks m. or_right _ _ (ap (λ x. one_differs_at p x g.number ts) (m t n.0) ∙ g.differs p))
+          (g.number, inr g.below, λ p marks m. or_right _ _ (ap (λ x. one_fails_at p x g.number ts) (m t n.0) ∙ g.fails p))
 
   -- ---- claims that serve
 
   -- Black's goal stands
-  pub goal_serves : (ts : List Test) → all_hold (boards k) ts ≡ true → (c : Claim) → c.illegal ≡ false → c.time ≡ k → c.line ≡ Some ts → (w : Attack) → LineOf WhiteLine w.line → Answered c w
+  pub goal_serves : (ts : List PlacedTest) → all_hold (boards k) ts ≡ true → (c : Claim) → c.illegal ≡ false → c.time ≡ k → c.line ≡ Some ts → (w : Attack) → LineOf WhiteLine w.line → Answered c w
   goal_serves ts l c kind time line w f =
       let r = reply k (λ t lt. (omega arith, h.no_white t lt)) w f in (
         r.0,
@@ -174,11 +174,11 @@ module _ (Place : Cell → Type 0) (BlackLine WhiteLine : List Test → Type 0) 
       quiet : (t : ℕ) → t ≤ k → NoneHolds BlackLine (boards t)
       quiet t low = ⊎_elim (λ lt. h.no_black t lt) (λ ge. let e : k ≡ t = omega arith in subst (λ n. NoneHolds BlackLine (boards n)) e no_black) (cases_lt t k)
 
-      line_cells : (o : Option (List Test)) → LineOf BlackLine o → TestCells Place o
+      line_cells : (o : Option (List PlacedTest)) → LineOf BlackLine o → TestCells Place o
       line_cells None f = tt
       line_cells (Some ts) f = h.black_cells ts f
 
-      line_fails : (o : Option (List Test)) → LineOf BlackLine o → tests_hold (boards c.time) o ≡ false
+      line_fails : (o : Option (List PlacedTest)) → LineOf BlackLine o → tests_hold (boards c.time) o ≡ false
       line_fails None f = refl
       line_fails (Some ts) f = quiet c.time le ts f
 
@@ -199,15 +199,15 @@ module _ (Place : Cell → Type 0) (BlackLine WhiteLine : List Test → Type 0) 
   each_fails no_black c f w late = ⊎_elim late (λ le. past_fails no_black c le f w) (cases_lt k c.time)
 
   -- White's goal stands, and it says so
-  pub white_goal_refutes : NoneHolds BlackLine (boards k) → (ts : List Test) → WhiteLine ts → all_hold (boards k) ts ≡ true → (c : Claim) → LineOf BlackLine c.line
+  pub white_goal_refutes : NoneHolds BlackLine (boards k) → (ts : List PlacedTest) → WhiteLine ts → all_hold (boards k) ts ≡ true → (c : Claim) → LineOf BlackLine c.line
       → (w : Attack) → w.line ≡ Some ts → w.time ≡ k → Fails c w
   white_goal_refutes no_black ts is_line l c f w line time = each_fails no_black c f w (λ lt r.
-      let x = none_differs Place (boards k) ts r h.some_place (h.white_cells ts is_line) l in (
+      let x = none_fails Place (boards k) ts r h.some_place (h.white_cells ts is_line) l in (
         x.0,
         x.1,
         λ marks m.
             let fails : is_answered marks (record { line = Some ts; time = k }) c.time r x.0 ≡ false
-            = or_from (not (nat_lt k c.time)) (one_differs_at x.0 (marks k) r ts) (ap not (lt-ltb k c.time lt)) (ap (λ y. one_differs_at x.0 y r ts) (m k (omega arith)) ∙ x.2) in
+            = or_from (not (nat_lt k c.time)) (one_fails_at x.0 (marks k) r ts) (ap not (lt-ltb k c.time lt)) (ap (λ y. one_fails_at x.0 y r ts) (m k (omega arith)) ∙ x.2) in
             answer_fails depth plies marks c w r x.0 (ap₂ (λ o t. is_answered marks (record { line = o; time = t }) c.time r x.0) line time ∙ fails),
       ))
 

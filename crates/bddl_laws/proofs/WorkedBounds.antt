@@ -3,7 +3,7 @@ use Rattle.std.proofs.Common.{◌≡◌, refl}
 use Rattle.bddl_model.specs.Bits.{bits}
 use Rattle.bddl_model.specs.Size.{units, inputs_of, units_of, gate_limit}
 use Rattle.bddl_model.specs.Bounds.{steps_bound, game_bound, certify_bound}
-use Rattle.bddl_laws.specs.WorkedGames.{two_by_two, five_in_a_row, six_stones, twelve_stones, greatest_setup}
+use Rattle.bddl_laws.specs.WorkedGames.{two_by_two, five_in_a_row, six_stones, twelve_stones, white_first, greatest_setup}
 
 pub two_by_two_inputs : inputs_of two_by_two ≡ 16
 unfolding bits
@@ -45,14 +45,22 @@ pub example_gates : gate_limit (five_in_a_row six_stones 3) ≡ 31584
 unfolding bits units gate_limit
 example_gates = refl
 
-pub greatest_units : units_of greatest_setup ≡ 14273
+pub white_first_units : units_of white_first ≡ 27
+unfolding units
+white_first_units = refl
+
+pub white_first_bound : game_bound white_first ≡ 2327040
+unfolding bits units gate_limit steps_bound game_bound
+white_first_bound = refl
+
+pub greatest_units : units_of greatest_setup ≡ 18193
 unfolding units
 greatest_units = refl
 
-pub greatest_gates : gate_limit greatest_setup ≡ 4795728
+pub greatest_gates : gate_limit greatest_setup ≡ 7859376
 unfolding bits units gate_limit
 greatest_gates = refl
 
-pub greatest_inputs : inputs_of greatest_setup ≡ 564
+pub greatest_inputs : inputs_of greatest_setup ≡ 775
 unfolding bits
 greatest_inputs = refl

@@ -6,14 +6,13 @@ ghost use Rattle.bddl_model.specs.Truth.{Formula};
 ghost use Rattle.bddl_model.specs.Forms.{has_number, prefix_variables};
 ghost use Rattle.bddl_model.specs.Circuit.{Circuit, IsCircuit, circuit_clauses};
 ghost use Rattle.bddl_model.specs.CircuitValues.{gate_bounds};
-ghost use Rattle.bddl_model.specs.declared.game.Side.TheVariants.{Black};
 ghost use Rattle.bddl_model.specs.Setup.{Setup};
 ghost use Rattle.bddl_model.specs.Limits.{IsGame};
 ghost use Rattle.bddl_model.specs.Size.{inputs_of, units_of, gate_limit, is_small};
 ghost use Rattle.bddl_model.specs.Tail.{is_tail, tail_length};
 ghost use Rattle.bddl_model.specs.Bounds.{bound, before_tail, game_bound, certify_bound};
 ghost use Rattle.bddl_model.specs.TrailDigits.{Digits, digits_number, steps_paid};
-ghost use Rattle.bddl_laws.specs.WorkedGames.{two_by_two, five_in_a_row, six_stones, twelve_stones, greatest_setup};
+ghost use Rattle.bddl_laws.specs.WorkedGames.{two_by_two, five_in_a_row, six_stones, twelve_stones, white_first, greatest_setup};
 
 /// A law: these games have these numbers.
 pub fn worked_bounds()
@@ -27,21 +26,22 @@ pub fn worked_bounds()
     ensures five_in_a_row_gates { gate_limit (five_in_a_row twelve_stones 5) ≡ 39984 }
     ensures example_units { units_of (five_in_a_row six_stones 3) ≡ 94 }
     ensures example_gates { gate_limit (five_in_a_row six_stones 3) ≡ 31584 }
-    ensures greatest_units { units_of greatest_setup ≡ 14273 }
-    ensures greatest_gates { gate_limit greatest_setup ≡ 4795728 }
-    ensures greatest_inputs { inputs_of greatest_setup ≡ 564 }
+    ensures white_first_units { units_of white_first ≡ 27 }
+    ensures white_first_bound { game_bound white_first ≡ 2327040 }
+    ensures greatest_units { units_of greatest_setup ≡ 18193 }
+    ensures greatest_gates { gate_limit greatest_setup ≡ 7859376 }
+    ensures greatest_inputs { inputs_of greatest_setup ≡ 775 }
 {}
 
-/// A law: where Black moves first, the numbers of the greatest game are the greatest of all games
-/// within the limits.
+/// A law: the numbers of the greatest game are the greatest of all games within the limits.
 pub fn sizes_have_limits()
     ensures units { (s : Setup)
-        → IsGame s.game → length s.board ≡ s.game.height * s.game.width → s.first ≡ Black → s.depth ≤ 31
-        → units_of s ≤ 14273 }
+        → IsGame s.game → length s.board ≡ s.game.height * s.game.width → s.depth ≤ 31
+        → units_of s ≤ 18193 }
     ensures gates { (s : Setup)
-        → IsGame s.game → length s.board ≡ s.game.height * s.game.width → s.first ≡ Black → s.depth ≤ 31
-        → gate_limit s ≤ 4795728 }
-    ensures inputs { (s : Setup) → IsGame s.game → s.first ≡ Black → s.depth ≤ 31 → inputs_of s ≤ 564 }
+        → IsGame s.game → length s.board ≡ s.game.height * s.game.width → s.depth ≤ 31
+        → gate_limit s ≤ 7859376 }
+    ensures inputs { (s : Setup) → IsGame s.game → s.depth ≤ 31 → inputs_of s ≤ 775 }
 {}
 
 /// A law: a small form whose tail holds all its variables behind the inputs has at most its game's bound.

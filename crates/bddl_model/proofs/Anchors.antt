@@ -4,6 +4,7 @@ use Rattle.std.proofs.lemmas.Bool.{and_parts, and_from, leb-true, le-leb}
 use Rattle.std.proofs.lemmas.List.Folds.{list_all-append}
 use Rattle.bddl_model.specs.declared.game.Atom.{Atom}
 use Rattle.bddl_model.specs.declared.game.Rect.{Rect}
+use Rattle.bddl_model.specs.Game.{greatest_side}
 use Rattle.bddl_model.specs.Fitting.{on_side, on_board, fits}
 use Rattle.bddl_model.specs.Limits.{IsSide}
 use Rattle.bddl_model.specs.Rectangle.{IsRectOf}
@@ -19,7 +20,7 @@ anchor_on_board width height x y atoms f =
     let column = and_parts (on_side width x) _ f in
     (column.0, (and_parts (on_side height y) _ column.1).0)
 
-pub anchor_within : (width height x y : ℕ) (atoms : List Atom) → IsSide width → IsSide height → fits width height atoms x y ≡ true → (x ≤ 16) × (y ≤ 16)
+pub anchor_within : (width height x y : ℕ) (atoms : List Atom) → IsSide width → IsSide height → fits width height atoms x y ≡ true → (x ≤ greatest_side) × (y ≤ greatest_side)
 anchor_within width height x y atoms wide high f =
     let anchor = anchor_on_board width height x y atoms f in
     let column = on_side_high width x anchor.0 in
@@ -58,7 +59,7 @@ fits_in_rect width height atoms r x y rect fit =
       y_high = leb-true y r.y_high rows.1;
     }
 
-pub rect_within : (width height : ℕ) (atoms : List Atom) (r : Rect) → IsSide width → IsSide height → IsRectOf width height atoms r → (r.x_high ≤ 16) × (r.y_high ≤ 16)
+pub rect_within : (width height : ℕ) (atoms : List Atom) (r : Rect) → IsSide width → IsSide height → IsRectOf width height atoms r → (r.x_high ≤ greatest_side) × (r.y_high ≤ greatest_side)
 rect_within width height atoms r wide high rect =
     let columns = rect.columns in
     let rows = rect.rows in

@@ -10,7 +10,7 @@ use Rattle.bddl_model.specs.declared.game.Side.{Side}
 use Rattle.bddl_model.specs.declared.game.Move.{Move}
 use Rattle.bddl_model.specs.Bits.{bits}
 use Rattle.bddl_model.specs.Words.{number_of_bits}
-use Rattle.bddl_model.specs.Game.{Game, Action, actions}
+use Rattle.bddl_model.specs.Game.{Game, Action, action_atoms, actions}
 use Rattle.bddl_model.specs.Board.{Board}
 use Rattle.bddl_model.specs.Fitting.{on_side, on_board, fits}
 use Rattle.bddl_model.specs.Moves.{legal_with, legal}
@@ -134,7 +134,7 @@ module _ (g : Game) (side : Side) (m : Move) where
     where
       of : (found : Option Action) → legal_with g board found m.x m.y ≡ true → fits_action g found m.x m.y ≡ true
       of None none = none
-      of (Some a) may = (and_parts (fits g.width g.height (a.before ++ a.effects) m.x m.y) _ may).0
+      of (Some a) may = (and_parts (fits g.width g.height (action_atoms a) m.x m.y) _ may).0
 
   pub in_range_is_placed : in_range g side m ≡ true → IsPlaced (shape_of g side) m
   in_range_is_placed = of (slice_get (actions g side) m.action) refl
@@ -142,7 +142,7 @@ module _ (g : Game) (side : Side) (m : Move) where
       of : (found : Option Action) → slice_get (actions g side) m.action ≡ found → fits_action g found m.x m.y ≡ true → IsPlaced (shape_of g side) m
       of None is none = absurd (false≢true none)
       of (Some a) is fit =
-          let column = and_parts (on_side g.width m.x) (on_side g.height m.y && list_all (on_board g.width g.height m.x m.y) (a.before ++ a.effects)) fit in
+          let column = and_parts (on_side g.width m.x) (on_side g.height m.y && list_all (on_board g.width g.height m.x m.y) (action_atoms a)) fit in
           let row = and_parts (on_side g.height m.y) _ column.1 in
           let x = and_parts _ _ column.0 in
           let y = and_parts _ _ row.0 in

@@ -11,12 +11,14 @@ use Rattle.bddl_model.specs.declared.game.Mark.TheVariants as marks
 use Rattle.bddl_model.specs.declared.game.Side.TheVariants.{Black, White}
 use Rattle.bddl_model.specs.declared.game.Term.TheVariants.{Rel, Abs}
 use Rattle.bddl_model.specs.declared.game.Atom.{Atom}
+use Rattle.bddl_model.specs.declared.game.Test.{Test}
 use Rattle.bddl_model.specs.Truth.{form_value}
 use Rattle.bddl_model.specs.FormulaText.{qtext}
 use Rattle.bddl_model.specs.Game.{Action, Game}
 use Rattle.bddl_model.specs.Board.{Board}
 use Rattle.bddl_model.specs.Rectangle.{rect_of}
 use Rattle.bddl_model.specs.Moves.{legal, moves}
+use Rattle.bddl_model.specs.Goal.{goal}
 use Rattle.bddl_model.specs.Win.{win}
 use Rattle.bddl_model.specs.Bits.{bits}
 use Rattle.bddl_model.specs.Layout.{layout, block, blocks, prefix_of, bounds, span}
@@ -27,6 +29,7 @@ use Rattle.bddl_model.specs.Qdimacs.{form_of}
 use Rattle.bddl_model.specs.Circuit.{Circuit, circuit_clauses}
 use Rattle.bddl_model.specs.declared.texts.TermText.TheVariants as text
 use Rattle.bddl_model.specs.declared.texts.AtomText.{AtomText}
+use Rattle.bddl_model.specs.declared.texts.TestText.{TestText}
 use Rattle.bddl_model.specs.declared.texts.ActionText.{ActionText}
 use Rattle.bddl_model.specs.declared.texts.InitAtom.{InitAtom}
 use Rattle.bddl_model.specs.declared.texts.DomainText.{DomainText}
@@ -67,25 +70,37 @@ the_text_of_no_formula = refl
 
 -- ---- games
 
-abbrev near : Mark → ℕ → ℕ → Atom
-near m x y = record { mark = m; x = Rel (pos x); y = Rel (pos y) }
+abbrev shifted : Mark → ℤ → ℤ → Atom
+shifted m x y = record { mark = m; x = Rel x; y = Rel y }
 
-abbrev fixed : Mark → ℕ → ℕ → Atom
-fixed m x y = record { mark = m; x = Abs x; y = Abs y }
+abbrev is : Atom → Test
+is a = record { atom = a; negated = false }
+
+abbrev is_not : Atom → Test
+is_not a = record { atom = a; negated = true }
+
+abbrev here : Mark → Atom
+here m = shifted m (pos 0) (pos 0)
+
+abbrev near : Mark → ℕ → ℕ → Test
+near m x y = is (shifted m (pos x) (pos y))
+
+abbrev fixed : Mark → ℕ → ℕ → Test
+fixed m x y = is (record { mark = m; x = Abs x; y = Abs y })
 
 abbrev occupy : Mark → Action
-occupy m = record { name = codes "occupy"; before = near marks.Free 0 0 ∷ []; effects = near m 0 0 ∷ [] }
+occupy m = record { name = codes "occupy"; before = is (here marks.Free) ∷ []; effects = here m ∷ [] }
 
-abbrev occupying : ℕ → ℕ → List (List Atom) → List (List Atom) → Game
+abbrev occupying : ℕ → ℕ → List (List Test) → List (List Test) → Game
 occupying w h black white = record { width = w; height = h; black_actions = occupy marks.Black ∷ []; white_actions = occupy marks.White ∷ []; black_lines = black; white_lines = white }
 
-abbrev without_actions : ℕ → ℕ → List (List Atom) → List (List Atom) → Game
+abbrev without_actions : ℕ → ℕ → List (List Test) → List (List Test) → Game
 without_actions w h black white = record { width = w; height = h; black_actions = []; white_actions = []; black_lines = black; white_lines = white }
 
-abbrev across : List Atom
+abbrev across : List Test
 across = near marks.Black 0 0 ∷ near marks.Black 1 0 ∷ []
 
-abbrev down : List Atom
+abbrev down : List Test
 down = near marks.Black 0 0 ∷ near marks.Black 0 1 ∷ []
 
 a_black_stone_stands : win (without_actions 1 1 ((fixed marks.Black 1 1 ∷ []) ∷ []) []) Black (marks.Black ∷ []) 0 ≡ true
@@ -109,7 +124,7 @@ the_plies_outrun_the_board = refl
 white_is_stuck : win (occupying 1 1 ((fixed marks.White 1 1 ∷ []) ∷ []) []) Black (replicate 1 marks.Free) 2 ≡ false
 white_is_stuck = refl
 
-white_must_complete_the_line : win (occupying 2 1 ((record { mark = marks.White; x = Abs 2; y = Abs 1 } ∷ []) ∷ []) []) Black (replicate 2 marks.Free) 2 ≡ true
+white_must_complete_the_line : win (occupying 2 1 ((fixed marks.White 2 1 ∷ []) ∷ []) []) Black (replicate 2 marks.Free) 2 ≡ true
 white_must_complete_the_line = refl
 
 both_goals_at_once_are_blacks : win (without_actions 2 1 ((fixed marks.Black 1 1 ∷ []) ∷ []) ((fixed marks.White 2 1 ∷ []) ∷ [])) Black (marks.Black ∷ marks.White ∷ []) 0 ≡ true
@@ -118,8 +133,36 @@ both_goals_at_once_are_blacks = refl
 whites_goal_stood_before : win (without_actions 1 1 ((fixed marks.Black 1 1 ∷ []) ∷ []) ((fixed marks.White 1 1 ∷ []) ∷ [])) Black (marks.White ∷ []) 31 ≡ false
 whites_goal_stood_before = refl
 
-the_later_effect_wins : win (record { width = 1; height = 1; black_actions = record { name = codes "a"; before = near marks.Free 0 0 ∷ []; effects = near marks.Black 0 0 ∷ near marks.White 0 0 ∷ [] } ∷ []; white_actions = []; black_lines = (fixed marks.White 1 1 ∷ []) ∷ []; white_lines = [] }) Black (marks.Free ∷ []) 1 ≡ true
+the_later_effect_wins : win (record { width = 1; height = 1; black_actions = record { name = codes "a"; before = is (here marks.Free) ∷ []; effects = here marks.Black ∷ here marks.White ∷ [] } ∷ []; white_actions = []; black_lines = (fixed marks.White 1 1 ∷ []) ∷ []; white_lines = [] }) Black (marks.Free ∷ []) 1 ≡ true
 the_later_effect_wins = refl
+
+-- ---- negated tests, and games that White begins
+
+no_white_stone_stands : map (λ m. goal (without_actions 1 1 ((is_not (here marks.White) ∷ []) ∷ []) []) (m ∷ []) Black) (marks.Free ∷ marks.Black ∷ marks.White ∷ []) ≡ true ∷ true ∷ false ∷ []
+no_white_stone_stands = refl
+
+-- a stone is dropped on one that lies below, or on the last row
+abbrev dropping : Game
+dropping = record {
+  width = 2;
+  height = 2;
+  black_actions = record { name = codes "stack"; before = is (here marks.Free) ∷ is_not (shifted marks.Free (pos 0) (pos 1)) ∷ []; effects = here marks.Black ∷ [] } ∷ record { name = codes "ground"; before = is (record { mark = marks.Free; x = Rel (pos 0); y = Abs 2 }) ∷ []; effects = record { mark = marks.Black; x = Rel (pos 0); y = Abs 2 } ∷ [] } ∷ [];
+  white_actions = [];
+  black_lines = [];
+  white_lines = [];
+}
+
+a_stone_is_stacked_on_either_colour : map (λ m. legal dropping (marks.Free ∷ marks.Free ∷ marks.Free ∷ m ∷ []) Black (record { action = 0; x = 2; y = 1 })) (marks.Free ∷ marks.Black ∷ marks.White ∷ []) ≡ false ∷ true ∷ true ∷ []
+a_stone_is_stacked_on_either_colour = refl
+
+white_begins_and_black_answers : win (occupying 2 1 ((near marks.Black 0 0 ∷ []) ∷ []) []) White (replicate 2 marks.Free) 2 ≡ true
+white_begins_and_black_answers = refl
+
+white_begins_and_no_ply_is_left : win (occupying 2 1 ((near marks.Black 0 0 ∷ []) ∷ []) []) White (replicate 2 marks.Free) 1 ≡ false
+white_begins_and_no_ply_is_left = refl
+
+white_takes_the_only_cell : win (occupying 1 1 ((near marks.Black 0 0 ∷ []) ∷ []) []) White (replicate 1 marks.Free) 2 ≡ false
+white_takes_the_only_cell = refl
 
 -- ---- moves
 
@@ -127,24 +170,21 @@ the_open_cells_in_order : moves (occupying 2 2 [] []) (marks.White ∷ marks.Fre
     ≡ record { action = 0; x = 2; y = 1 } ∷ record { action = 0; x = 1; y = 2 } ∷ record { action = 0; x = 2; y = 2 } ∷ []
 the_open_cells_in_order = refl
 
-abbrev shifted : Mark → ℤ → ℤ → Atom
-shifted m x y = record { mark = m; x = Rel x; y = Rel y }
-
 anchors_of_two_atoms : rect_of 3 2 (shifted marks.Black (pos 1) (pos 0) ∷ record { mark = marks.White; x = Rel (negsuc 0); y = Abs 1 } ∷ []) ≡ Some (record { x_low = 2; x_high = 2; y_low = 1; y_high = 2 })
 unfolding rect_of
 anchors_of_two_atoms = refl
 
-the_first_column_leads_to_the_last : rect_of 16 16 (shifted marks.Black (pos 15) (pos 0) ∷ []) ≡ Some (record { x_low = 1; x_high = 1; y_low = 1; y_high = 16 })
+the_first_column_leads_to_the_last : rect_of 64 64 (shifted marks.Black (pos 63) (pos 0) ∷ []) ≡ Some (record { x_low = 1; x_high = 1; y_low = 1; y_high = 64 })
 unfolding rect_of
 the_first_column_leads_to_the_last = refl
 
-no_column_leads_past_the_last : rect_of 16 16 (shifted marks.Black (pos 16) (pos 0) ∷ []) ≡ None
+no_column_leads_past_the_last : rect_of 64 64 (shifted marks.Black (pos 64) (pos 0) ∷ []) ≡ None
 unfolding rect_of
 no_column_leads_past_the_last = refl
 
 -- a stone of one mark goes from the anchor to a cell of another mark
 abbrev going : List ℕ → Mark → Mark → ℤ → ℤ → Action
-going name mine from x y = record { name = name; before = shifted mine (pos 0) (pos 0) ∷ shifted from x y ∷ []; effects = shifted marks.Free (pos 0) (pos 0) ∷ shifted mine x y ∷ [] }
+going name mine from x y = record { name = name; before = is (here mine) ∷ is (shifted from x y) ∷ []; effects = here marks.Free ∷ shifted mine x y ∷ [] }
 
 abbrev breakthrough : Game
 breakthrough = record {
@@ -152,8 +192,8 @@ breakthrough = record {
   height = 4;
   black_actions = going (codes "forward") marks.Black marks.Free (pos 0) (pos 1) ∷ going (codes "right") marks.Black marks.White (pos 1) (pos 1) ∷ going (codes "left") marks.Black marks.White (negsuc 0) (pos 1) ∷ [];
   white_actions = going (codes "forward") marks.White marks.Free (pos 0) (negsuc 0) ∷ [];
-  black_lines = (record { mark = marks.Black; x = Rel (pos 0); y = Abs 4 } ∷ []) ∷ [];
-  white_lines = (record { mark = marks.White; x = Rel (pos 0); y = Abs 1 } ∷ []) ∷ [];
+  black_lines = (is (record { mark = marks.Black; x = Rel (pos 0); y = Abs 4 }) ∷ []) ∷ [];
+  white_lines = (is (record { mark = marks.White; x = Rel (pos 0); y = Abs 1 }) ∷ []) ∷ [];
 }
 
 black_breaks_through : win breakthrough Black (marks.Free ∷ marks.Free ∷ marks.Free ∷ marks.White ∷ marks.Black ∷ marks.Free ∷ marks.Free ∷ marks.Free ∷ []) 1 ≡ true
@@ -164,7 +204,7 @@ no_stone_goes_past_the_last_row board = refl
 
 -- ---- bits and inputs
 
-bits_of_small_numbers : bits 0 ∷ bits 1 ∷ bits 2 ∷ bits 3 ∷ bits 4 ∷ bits 5 ∷ bits 16 ∷ bits 17 ∷ [] ≡ 0 ∷ 0 ∷ 1 ∷ 2 ∷ 2 ∷ 3 ∷ 4 ∷ 5 ∷ []
+bits_of_small_numbers : bits 0 ∷ bits 1 ∷ bits 2 ∷ bits 3 ∷ bits 4 ∷ bits 5 ∷ bits 16 ∷ bits 17 ∷ bits 64 ∷ [] ≡ 0 ∷ 0 ∷ 1 ∷ 2 ∷ 2 ∷ 3 ∷ 4 ∷ 5 ∷ 6 ∷ []
 unfolding bits
 bits_of_small_numbers = refl
 
@@ -173,7 +213,7 @@ unfolding bits
 inputs_of_three_plies_on_two_by_two = refl
 
 -- four lines of five atoms
-abbrev five : Mark → List (List Atom)
+abbrev five : Mark → List (List Test)
 five m = replicate 4 (replicate 5 (near m 0 0))
 
 inputs_of_five_plies_on_fifteen_by_fifteen : prefix_of (blocks (layout (occupying 15 15 (five marks.Black) (five marks.White)) Black 5))
@@ -184,6 +224,10 @@ inputs_of_five_plies_on_fifteen_by_fifteen = refl
 inputs_of_a_start_board : prefix_of (blocks (layout (without_actions 16 3 [] []) Black 0)) ≡ bounds Exists 1 7 ++ bounds All 8 6
 unfolding bits
 inputs_of_a_start_board = refl
+
+inputs_of_two_plies_that_white_begins : prefix_of (blocks (layout (occupying 2 1 ((near marks.Black 0 0 ∷ []) ∷ []) []) White 2)) ≡ bounds Exists 1 1 ++ bounds All 2 1 ++ bounds Exists 3 5 ++ bounds All 8 1
+unfolding bits
+inputs_of_two_plies_that_white_begins = refl
 
 inputs_of_one_cell : (layout (without_actions 1 1 [] []) Black 0).inputs ≡ 1
 unfolding bits
@@ -240,26 +284,29 @@ the_clauses_of_a_gate = refl
 
 -- ---- what is wrong with a game
 
-abbrev here : Mark → AtomText
-here m = record { mark = m; x = text.Shift (pos 0); y = text.Shift (pos 0) }
-
 abbrev right : ℕ → Mark → AtomText
 right n m = record { mark = m; x = text.Shift (pos n); y = text.Shift (pos 0) }
+
+abbrev asked : AtomText → TestText
+asked a = record { atom = a; negated = false }
+
+abbrev refused : AtomText → TestText
+refused a = record { atom = a; negated = true }
 
 abbrev column : ℕ → Mark → AtomText
 column n m = record { mark = m; x = text.Number n; y = text.Shift (pos 0) }
 
-abbrev acting : List ℕ → List AtomText → List AtomText → ActionText
+abbrev acting : List ℕ → List TestText → List AtomText → ActionText
 acting name before effects = record { name = name; before = before; effects = effects }
 
 abbrev put : List ℕ → ActionText
-put name = acting name [] (here marks.Black ∷ [])
+put name = acting name [] (right 0 marks.Black ∷ [])
 
 abbrev blacks : List ActionText → DomainText
 blacks actions = record { black = actions; white = [] }
 
 abbrev of_size : ℕ → ℕ → ProblemText
-of_size w h = record { width = w; height = h; init = []; depth = 0; black = []; white = [] }
+of_size w h = record { width = w; height = h; init = []; depth = 0; first = Black; black = []; white = [] }
 
 abbrev marking : Mark → ℕ → ℕ → InitAtom
 marking m x y = record { mark = m; x = x; y = y }
@@ -268,11 +315,15 @@ a_board_of_one_cell_has_no_fault : setup_fault (blacks []) (of_size 1 1) ≡ Non
 unfolding setup_fault
 a_board_of_one_cell_has_no_fault = refl
 
-seventeen_columns : setup_fault (blacks []) (of_size 17 1) ≡ Some (fault.SizeOutOfRange Width 17)
+the_greatest_board_has_no_fault : setup_fault (blacks []) (of_size 64 64) ≡ None
 unfolding setup_fault
-seventeen_columns = refl
+the_greatest_board_has_no_fault = refl
 
-no_rows : setup_fault (blacks []) (of_size 16 0) ≡ Some (fault.SizeOutOfRange Height 0)
+sixty_five_columns : setup_fault (blacks []) (of_size 65 1) ≡ Some (fault.SizeOutOfRange Width 65)
+unfolding setup_fault
+sixty_five_columns = refl
+
+no_rows : setup_fault (blacks []) (of_size 64 0) ≡ Some (fault.SizeOutOfRange Height 0)
 unfolding setup_fault
 no_rows = refl
 
@@ -298,7 +349,7 @@ the_other_side_may_use_a_name : setup_fault (record { black = put (codes "a") �
 unfolding setup_fault
 the_other_side_may_use_a_name = refl
 
-preconditions_come_before_effects : setup_fault (blacks (acting (codes "a") (column 3 marks.Free ∷ []) (column 4 marks.Black ∷ []) ∷ [])) (of_size 2 1) ≡ Some (fault.NumberOffBoard (item.Action Black 1) 3)
+preconditions_come_before_effects : setup_fault (blacks (acting (codes "a") (asked (column 3 marks.Free) ∷ []) (column 4 marks.Black ∷ []) ∷ [])) (of_size 2 1) ≡ Some (fault.NumberOffBoard (item.Action Black 1) 3)
 unfolding setup_fault
 preconditions_come_before_effects = refl
 
@@ -306,27 +357,35 @@ an_effect_past_each_column : setup_fault (blacks (acting (codes "a") [] (right 1
 unfolding setup_fault
 an_effect_past_each_column = refl
 
-an_effect_in_the_last_column : setup_fault (blacks (acting (codes "a") [] (right 15 marks.Black ∷ []) ∷ [])) (of_size 16 16) ≡ None
+an_effect_in_the_last_column : setup_fault (blacks (acting (codes "a") [] (right 63 marks.Black ∷ []) ∷ [])) (of_size 64 64) ≡ None
 unfolding setup_fault
 an_effect_in_the_last_column = refl
 
-five_effects : setup_fault (blacks (acting (codes "a") [] (replicate 5 (here marks.Black)) ∷ [])) (of_size 1 1) ≡ Some (fault.TooManyAtoms (item.Action Black 1) part.Effects 5)
+five_effects : setup_fault (blacks (acting (codes "a") [] (replicate 5 (right 0 marks.Black)) ∷ [])) (of_size 1 1) ≡ Some (fault.TooManyAtoms (item.Action Black 1) part.Effects 5)
 unfolding setup_fault
 five_effects = refl
 
 -- the depth comes before the cells, and White's lines come last
-the_first_of_three_faults : setup_fault (blacks []) (record { width = 1; height = 1; init = marking marks.Black 2 1 ∷ []; depth = 32; black = []; white = (column 2 marks.White ∷ []) ∷ [] }) ≡ Some (fault.DepthOutOfRange 32)
+the_first_of_three_faults : setup_fault (blacks []) (record { width = 1; height = 1; init = marking marks.Black 2 1 ∷ []; depth = 32; first = White; black = []; white = (asked (column 2 marks.White) ∷ []) ∷ [] }) ≡ Some (fault.DepthOutOfRange 32)
 unfolding setup_fault
 the_first_of_three_faults = refl
 
-cells_come_before_lines : setup_fault (blacks []) (record { width = 1; height = 1; init = marking marks.Black 2 1 ∷ []; depth = 31; black = []; white = (column 2 marks.White ∷ []) ∷ [] }) ≡ Some (fault.NumberOffBoard (item.Init 1) 2)
+cells_come_before_lines : setup_fault (blacks []) (record { width = 1; height = 1; init = marking marks.Black 2 1 ∷ []; depth = 31; first = White; black = []; white = (asked (column 2 marks.White) ∷ []) ∷ [] }) ≡ Some (fault.NumberOffBoard (item.Init 1) 2)
 unfolding setup_fault
 cells_come_before_lines = refl
 
-a_line_off_the_board : setup_fault (blacks []) (record { width = 1; height = 1; init = []; depth = 31; black = (here marks.Black ∷ []) ∷ []; white = [] ∷ (column 2 marks.White ∷ []) ∷ [] }) ≡ Some (fault.NumberOffBoard (item.Line White 2) 2)
+a_negated_test_has_to_fit_too : setup_fault (blacks []) (record (of_size 1 1) { black = (refused (right 1 marks.Black) ∷ []) ∷ [] }) ≡ Some (fault.NeverOnBoard (item.Line Black 1))
+unfolding setup_fault
+a_negated_test_has_to_fit_too = refl
+
+seventeen_tests_in_a_line : setup_fault (blacks []) (record (of_size 1 1) { white = (replicate 8 (asked (right 0 marks.Black)) ++ replicate 9 (refused (right 0 marks.Black))) ∷ [] }) ≡ Some (fault.TooManyAtoms (item.Line White 1) part.Line 17)
+unfolding setup_fault
+seventeen_tests_in_a_line = refl
+
+a_line_off_the_board : setup_fault (blacks []) (record { width = 1; height = 1; init = []; depth = 31; first = Black; black = (asked (right 0 marks.Black) ∷ []) ∷ []; white = [] ∷ (refused (column 2 marks.White) ∷ []) ∷ [] }) ≡ Some (fault.NumberOffBoard (item.Line White 2) 2)
 unfolding setup_fault
 a_line_off_the_board = refl
 
-many_lines : setup_fault (blacks []) (record { width = 1; height = 1; init = []; depth = 0; black = []; white = replicate 257 [] }) ≡ Some (fault.TooManyLines White 257)
+many_lines : setup_fault (blacks []) (record { width = 1; height = 1; init = []; depth = 0; first = Black; black = []; white = replicate 257 [] }) ≡ Some (fault.TooManyLines White 257)
 unfolding setup_fault
 many_lines = refl

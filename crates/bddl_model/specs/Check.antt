@@ -1,5 +1,5 @@
 -- The first fault of a game that two trees state, in the order in which the texts are checked, and the setup where there is none.
-use Rattle.std.specs.Prelude.{ℕ, suc, ◌+◌, Bool, true, false, not, ◌&&◌, ◌==◌, nat_lt, bytes_eq, if◌then◌else◌, List, [], ◌∷◌, ◌++◌, length, flat_map, Option, None, Some, Result, Ok, Err}
+use Rattle.std.specs.Prelude.{ℕ, suc, ◌+◌, Bool, true, false, not, ◌&&◌, ◌==◌, nat_lt, bytes_eq, if◌then◌else◌, List, [], ◌∷◌, ◌++◌, length, map, flat_map, Option, None, Some, Result, Ok, Err}
 use Rattle.std.specs.List.{list_any, range_with_len}
 use Rattle.bddl_model.specs.declared.game.Side.{Side}
 use Rattle.bddl_model.specs.declared.game.Side.TheVariants.{Black, White}
@@ -7,6 +7,7 @@ use Rattle.bddl_model.specs.declared.game.Atom.{Atom}
 use Rattle.bddl_model.specs.declared.texts.TermText.{TermText}
 use Rattle.bddl_model.specs.declared.texts.TermText.TheVariants.{Number}
 use Rattle.bddl_model.specs.declared.texts.AtomText.{AtomText}
+use Rattle.bddl_model.specs.declared.texts.TestText.{TestText}
 use Rattle.bddl_model.specs.declared.texts.InitAtom.{InitAtom}
 use Rattle.bddl_model.specs.declared.texts.ActionText.{ActionText}
 use Rattle.bddl_model.specs.declared.texts.DomainText.{DomainText}
@@ -21,7 +22,7 @@ use Rattle.bddl_model.specs.declared.check.CheckFault.{CheckFault}
 use Rattle.bddl_model.specs.declared.check.CheckFault.TheVariants as fault
 use Rattle.bddl_model.specs.Fitting.{on_side, fits}
 use Rattle.bddl_model.specs.Game.{action_atoms, greatest_side, line_atoms}
-use Rattle.bddl_model.specs.Setup.{Setup, action_of, line_of, setup_of}
+use Rattle.bddl_model.specs.Setup.{Setup, action_of, tests_of, setup_of}
 
 -- ---- checks one after the other
 
@@ -42,10 +43,10 @@ size_fault axis n = fault_if (not (on_side greatest_side n)) (fault.SizeOutOfRan
 abbrev pub depth_fault : ℕ → Option CheckFault
 depth_fault n = fault_if (nat_lt 31 n) (fault.DepthOutOfRange n)
 
--- ---- atoms of an item
+-- ---- tests and atoms of an item
 
-abbrev pub length_fault : Item → Part → ℕ → List AtomText → Option CheckFault
-length_fault i p most atoms = fault_if (nat_lt most (length atoms)) (fault.TooManyAtoms i p (length atoms))
+abbrev pub length_fault : Item → Part → ℕ → ℕ → Option CheckFault
+length_fault i p most found = fault_if (nat_lt most found) (fault.TooManyAtoms i p found)
 
 -- a fixed number that is none of the side
 abbrev pub term_fault : Item → ℕ → TermText → Option CheckFault
@@ -55,6 +56,9 @@ term_fault i side _ = None
 -- in the order of the atoms, x before y
 abbrev pub atoms_fault : Item → ℕ → ℕ → List AtomText → Option CheckFault
 atoms_fault i width height atoms = first_of (flat_map (λ a. term_fault i width a.x ∷ term_fault i height a.y ∷ []) atoms)
+
+abbrev pub tests_fault : Item → ℕ → ℕ → List TestText → Option CheckFault
+tests_fault i width height tests = atoms_fault i width height (map (λ t. t.atom) tests)
 
 -- some anchor of the board fits
 abbrev pub fits_somewhere : ℕ → ℕ → List Atom → Bool
@@ -79,10 +83,10 @@ abbrev pub action_fault : ℕ → ℕ → Side → List ActionText → ActionTex
 action_fault width height side earlier a =
     let i = item.Action side (length earlier + 1) in
     first_of (
-    length_fault i part.Before 8 a.before
-    ∷ length_fault i part.Effects 4 a.effects
+    length_fault i part.Before 8 (length a.before)
+    ∷ length_fault i part.Effects 4 (length a.effects)
     ∷ same_name i (named_at 1 earlier a.name)
-    ∷ atoms_fault i width height a.before
+    ∷ tests_fault i width height a.before
     ∷ atoms_fault i width height a.effects
     ∷ never_fault i width height (action_atoms (action_of width height a))
     ∷ [])
@@ -118,17 +122,17 @@ cells_fault width height cells = first_of (each_cell width height [] cells)
 
 -- ---- goal lines
 
-abbrev pub line_fault : ℕ → ℕ → Side → ℕ → List AtomText → Option CheckFault
-line_fault width height side number atoms =
+abbrev pub line_fault : ℕ → ℕ → Side → ℕ → List TestText → Option CheckFault
+line_fault width height side number tests =
     let i = item.Line side number in
-    first_of (length_fault i part.Line 16 atoms ∷ atoms_fault i width height atoms ∷ never_fault i width height (line_atoms (line_of width height atoms)) ∷ [])
+    first_of (length_fault i part.Line 16 (length tests) ∷ tests_fault i width height tests ∷ never_fault i width height (line_atoms (tests_of width height tests)) ∷ [])
 
 -- the lines from this number on
-abbrev pub each_line : ℕ → ℕ → Side → ℕ → List (List AtomText) → List (Option CheckFault)
+abbrev pub each_line : ℕ → ℕ → Side → ℕ → List (List TestText) → List (Option CheckFault)
 each_line width height side number [] = []
 each_line width height side number (l ∷ more) = line_fault width height side number l ∷ each_line width height side (suc number) more
 
-abbrev pub lines_fault : ℕ → ℕ → Side → List (List AtomText) → Option CheckFault
+abbrev pub lines_fault : ℕ → ℕ → Side → List (List TestText) → Option CheckFault
 lines_fault width height side lines = first_of (fault_if (nat_lt 256 (length lines)) (fault.TooManyLines side (length lines)) ∷ each_line width height side 1 lines)
 
 -- ---- the whole

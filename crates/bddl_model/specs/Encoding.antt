@@ -8,6 +8,7 @@ use Rattle.bddl_model.specs.declared.game.Mark.TheVariants.{Free}
 use Rattle.bddl_model.specs.declared.game.Side.{Side}
 use Rattle.bddl_model.specs.declared.game.Side.TheVariants.{Black, White}
 use Rattle.bddl_model.specs.declared.game.Atom.{Atom}
+use Rattle.bddl_model.specs.declared.game.Test.{Test}
 use Rattle.bddl_model.specs.declared.game.Move.{Move}
 use Rattle.bddl_model.specs.declared.game.PlyBits.{PlyBits}
 use Rattle.bddl_model.specs.Truth.{Assignment, Formula}
@@ -19,34 +20,34 @@ use Rattle.bddl_model.specs.Fitting.{led, on_side, fits}
 use Rattle.bddl_model.specs.Moves.{legal, after}
 use Rattle.bddl_model.specs.Setup.{Setup}
 use Rattle.bddl_model.specs.Layout.{Inputs, sizes_of, layout, ply_at, end, blocks, bounds, prefix_of}
-use Rattle.bddl_model.specs.Conditions.{Cell, Test, Ply, Claim, Attack, conditions}
+use Rattle.bddl_model.specs.Conditions.{Cell, PlacedTest, Ply, Claim, Attack, conditions}
 use Rattle.bddl_model.specs.Exact.{coded_move, own_code, position, ply_from}
 
 -- ---- tests of a game
 
--- what these atoms ask for from an anchor
-abbrev pub tests_from : Cell → List Atom → List Test
-tests_from anchor atoms = map (λ t. record { cell = record { x = led t.x anchor.x; y = led t.y anchor.y }; mark = t.mark }) atoms
+-- these tests from an anchor
+abbrev pub tests_from : Cell → List Test → List PlacedTest
+tests_from anchor tests = map (λ t. record { cell = record { x = led t.atom.x anchor.x; y = led t.atom.y anchor.y }; test = t }) tests
 
 -- the same, where the anchor fits the atoms of a whole item
-abbrev pub fitting_tests : Game → List Atom → List Atom → Cell → Option (List Test)
-fitting_tests g item atoms anchor = if fits g.width g.height item anchor.x anchor.y then Some (tests_from anchor atoms) else None
+abbrev pub fitting_tests : Game → List Atom → List Test → Cell → Option (List PlacedTest)
+fitting_tests g item tests anchor = if fits g.width g.height item anchor.x anchor.y then Some (tests_from anchor tests) else None
 
-abbrev pub action_tests : Game → Option Action → Cell → Option (List Test)
+abbrev pub action_tests : Game → Option Action → Cell → Option (List PlacedTest)
 action_tests g None anchor = None
 action_tests g (Some a) anchor = fitting_tests g (action_atoms a) a.before anchor
 
 -- the preconditions of a move, where the side has its action and the anchor fits
-abbrev pub move_tests : Game → Side → Move → Option (List Test)
+abbrev pub move_tests : Game → Side → Move → Option (List PlacedTest)
 move_tests g side m = action_tests g (slice_get (actions g side) m.action) (record { x = m.x; y = m.y })
 
-abbrev pub atoms_tests : Game → Option (List Atom) → Cell → Option (List Test)
-atoms_tests g None anchor = None
-atoms_tests g (Some line) anchor = fitting_tests g (line_atoms line) line anchor
+abbrev pub placed_line : Game → Option (List Test) → Cell → Option (List PlacedTest)
+placed_line g None anchor = None
+placed_line g (Some line) anchor = fitting_tests g (line_atoms line) line anchor
 
--- the atoms of the side's line of this number, where there is one and the anchor fits
-abbrev pub line_tests : Game → Side → ℕ → Cell → Option (List Test)
-line_tests g side n anchor = atoms_tests g (slice_get (lines g side) n) anchor
+-- the side's line of this number, where there is one and the anchor fits
+abbrev pub line_tests : Game → Side → ℕ → Cell → Option (List PlacedTest)
+line_tests g side n anchor = placed_line g (slice_get (lines g side) n) anchor
 
 -- the mark that a board shows at a cell; `Free` off the board
 abbrev pub shown : Game → Board → Cell → Mark
@@ -72,7 +73,7 @@ abbrev pub ply_bits : Setup → ℕ → PlyBits
 ply_bits s k = ply_at (sizes_of s.game s.depth) (side_after s.first k) (ply_from s k)
 
 -- the tests of the move that a span names
-abbrev pub code_tests : Setup → Assignment → Side → Span → Option (List Test)
+abbrev pub code_tests : Setup → Assignment → Side → Span → Option (List PlacedTest)
 code_tests s a side code = move_tests s.game side (coded_move s.game side a code)
 
 abbrev pub ply_read : Setup → Assignment → ℕ → Ply

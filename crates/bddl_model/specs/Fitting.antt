@@ -1,9 +1,11 @@
--- Which cell an atom names from an anchor, and at which anchors its atoms stay on the board.
-use Rattle.std.specs.Prelude.{ℕ, suc, ◌+◌, ◌-◌, pos, negsuc, Bool, ◌&&◌, nat_le, List}
+-- Which cell an atom names from an anchor, at which anchors all atoms stay on the board, and whether a test holds there.
+use Rattle.std.specs.Prelude.{ℕ, suc, ◌+◌, ◌-◌, pos, negsuc, Bool, not, ◌&&◌, nat_le, if◌then◌else◌, List}
 use Rattle.std.specs.List.{list_all}
 use Rattle.bddl_model.specs.declared.game.Term.{Term}
 use Rattle.bddl_model.specs.declared.game.Term.TheVariants.{Rel, Abs}
+use Rattle.bddl_model.specs.declared.game.Mark.{Mark}
 use Rattle.bddl_model.specs.declared.game.Atom.{Atom}
+use Rattle.bddl_model.specs.declared.game.Test.{Test}
 use Rattle.bddl_model.specs.declared.texts.InitAtom.{InitAtom}
 use Rattle.bddl_model.specs.Board.{Board, mark_at, same_mark}
 
@@ -27,6 +29,10 @@ on_board width height x y atom = on_side width (led atom.x x) && on_side height 
 abbrev pub fits : ℕ → ℕ → List Atom → ℕ → ℕ → Bool
 fits width height atoms x y = on_side width x && (on_side height y && list_all (on_board width height x y) atoms)
 
--- the atom's cell, which is on the board, has its mark
-abbrev pub has_mark : ℕ → Board → ℕ → ℕ → Atom → Bool
-has_mark width board x y atom = same_mark (mark_at width board (led atom.x x) (led atom.y y)) atom.mark
+-- the mark is the one that the test asks for, or, where it is negated, another
+abbrev pub passes : Mark → Test → Bool
+passes mark t = if t.negated then not (same_mark mark t.atom.mark) else same_mark mark t.atom.mark
+
+-- the mark of the test's cell, which is on the board, passes
+abbrev pub test_holds : ℕ → Board → ℕ → ℕ → Test → Bool
+test_holds width board x y t = passes (mark_at width board (led t.atom.x x) (led t.atom.y y)) t

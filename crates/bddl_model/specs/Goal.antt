@@ -2,17 +2,17 @@
 use Rattle.std.specs.Prelude.{ℕ, Bool, ◌&&◌, List}
 use Rattle.std.specs.List.{list_any, list_all, range_with_len}
 use Rattle.bddl_model.specs.declared.game.Side.{Side}
-use Rattle.bddl_model.specs.declared.game.Atom.{Atom}
+use Rattle.bddl_model.specs.declared.game.Test.{Test}
 use Rattle.bddl_model.specs.Game.{Game, line_atoms, lines}
 use Rattle.bddl_model.specs.Board.{Board}
-use Rattle.bddl_model.specs.Fitting.{fits, has_mark}
+use Rattle.bddl_model.specs.Fitting.{fits, test_holds}
 
--- the anchor fits, and every atom's cell has its mark
-abbrev pub holds_from : Game → Board → List Atom → ℕ → ℕ → Bool
-holds_from g board line x y = fits g.width g.height (line_atoms line) x y && list_all (has_mark g.width board x y) line
+-- the anchor fits, and every test holds
+abbrev pub holds_from : Game → Board → List Test → ℕ → ℕ → Bool
+holds_from g board line x y = fits g.width g.height (line_atoms line) x y && list_all (test_holds g.width board x y) line
 
 -- it does so from some anchor
-abbrev pub line_holds : Game → Board → List Atom → Bool
+abbrev pub line_holds : Game → Board → List Test → Bool
 line_holds g board line = list_any (λ y. list_any (λ x. holds_from g board line x y) (range_with_len 1 g.width)) (range_with_len 1 g.height)
 
 -- some line of the side holds

@@ -1,6 +1,6 @@
 -- The inputs of the encoding, one part after the other from number 1 on: the moves; a claim of Black, that its goal stands
 -- at some time, or of the other kind, that a move of White was illegal; a line, an anchor and a time at which White says
--- that its own goal stood before, and the atom by which Black refutes it; and a place of the board.
+-- that its own goal stood before, and the test by which Black refutes it; and a place of the board.
 use Rattle.std.specs.Prelude.{ℕ, zero, suc, ◌+◌, ◌-◌, max, List, [], ◌∷◌, ◌++◌, length}
 use Rattle.bddl_model.specs.declared.formula.Quant.{Quant}
 use Rattle.bddl_model.specs.declared.formula.Quant.TheVariants.{Exists, All}
@@ -9,7 +9,7 @@ use Rattle.bddl_model.specs.declared.formula.Span.{Span}
 use Rattle.bddl_model.specs.declared.formula.Block.{Block}
 use Rattle.bddl_model.specs.declared.game.Side.{Side}
 use Rattle.bddl_model.specs.declared.game.Side.TheVariants.{Black, White}
-use Rattle.bddl_model.specs.declared.game.Atom.{Atom}
+use Rattle.bddl_model.specs.declared.game.Test.{Test}
 use Rattle.bddl_model.specs.declared.game.PlyBits.{PlyBits}
 use Rattle.bddl_model.specs.Bits.{bits}
 use Rattle.bddl_model.specs.Game.{Game, Action, opponent}
@@ -40,12 +40,12 @@ abbrev pub most_preconditions : List Action → ℕ
 most_preconditions [] = 0
 most_preconditions (a ∷ more) = max (length a.before) (most_preconditions more)
 
-abbrev pub most_atoms : List (List Atom) → ℕ
-most_atoms [] = 0
-most_atoms (l ∷ more) = max (length l) (most_atoms more)
+abbrev pub most_tests : List (List Test) → ℕ
+most_tests [] = 0
+most_tests (l ∷ more) = max (length l) (most_tests more)
 
 -- so many where there is a line, else none
-abbrev pub where_lines : List (List Atom) → ℕ → ℕ
+abbrev pub where_lines : List (List Test) → ℕ → ℕ
 where_lines [] n = 0
 where_lines (l ∷ ls) n = n
 
@@ -60,7 +60,7 @@ sizes_of g depth = record {
   white_line = bits (length g.white_lines);
   white_anchor = where_lines g.white_lines (anchor_bits g);
   white_time = where_lines g.white_lines (bits (depth + 1));
-  refuting = bits (most_atoms g.white_lines);
+  refuting = bits (most_tests g.white_lines);
 }
 
 -- ---- where each part stands

@@ -1,6 +1,7 @@
 -- What a game keeps to: its sizes, and that each action and each line fits somewhere.
 use Rattle.std.specs.Prelude.{ℕ, ◌≡◌, ◌*◌, ◌≤◌, All, List, length}
 use Rattle.bddl_model.specs.declared.game.Atom.{Atom}
+use Rattle.bddl_model.specs.declared.game.Test.{Test}
 use Rattle.bddl_model.specs.declared.game.Rect.{Rect}
 use Rattle.bddl_model.specs.Game.{Game, Action, action_atoms, greatest_side, line_atoms}
 use Rattle.bddl_model.specs.Board.{SizedBoard}
@@ -19,12 +20,12 @@ pub record IsAction (width height : ℕ) (a : Action) : Type 0 where
   pub effects : length a.effects ≤ 4
   pub fits : FitsSomewhere width height (action_atoms a)
 
-pub record IsLine (width height : ℕ) (line : List Atom) : Type 0 where
-  pub atoms : length line ≤ 16
+pub record IsLine (width height : ℕ) (line : List Test) : Type 0 where
+  pub tests : length line ≤ 16
   pub fits : FitsSomewhere width height (line_atoms line)
 
 -- the actions and the lines of one side
-pub record AreItems (width height : ℕ) (actions : List Action) (lines : List (List Atom)) : Type 0 where
+pub record AreItems (width height : ℕ) (actions : List Action) (lines : List (List Test)) : Type 0 where
   pub few_actions : length actions ≤ 8
   pub each_action : All (IsAction width height) actions
   pub few_lines : length lines ≤ 256

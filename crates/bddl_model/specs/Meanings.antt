@@ -5,6 +5,8 @@ use Rattle.bddl_model.specs.declared.tokens.TokenKind.{TokenKind}
 use Rattle.bddl_model.specs.declared.tokens.TokenKind.TheVariants.{Left, Right, Comma, Plus, Minus, VarX, VarY, Hash, Colon, Name, Number}
 use Rattle.bddl_model.specs.declared.game.Mark.{Mark}
 use Rattle.bddl_model.specs.declared.game.Mark.TheVariants as marks
+use Rattle.bddl_model.specs.declared.game.Side.{Side}
+use Rattle.bddl_model.specs.declared.game.Side.TheVariants as sides
 use Rattle.bddl_model.specs.declared.texts.TermText.{TermText}
 use Rattle.bddl_model.specs.declared.texts.TermText.TheVariants as terms
 use Rattle.bddl_model.specs.Bytes.{is_name_byte, digits_value}
@@ -55,6 +57,31 @@ mark_in _ text = None
 
 abbrev pub a_mark : Lexeme → Option Mark
 a_mark w = mark_in w.kind w.text
+
+abbrev pub side_in : TokenKind → List ℕ → Option Side
+side_in Name text = if bytes_eq text (codes "black") then Some sides.Black else (if bytes_eq text (codes "white") then Some sides.White else None)
+side_in _ text = None
+
+abbrev pub a_side : Lexeme → Option Side
+a_side w = side_in w.kind w.text
+
+-- ---- tests
+
+-- how a test begins: with the mark of its atom, or it is negated
+pub data TestStart : Type 0 where
+  plain : Mark → TestStart
+  negation : TestStart
+
+abbrev pub plain_start : Option Mark → Option TestStart
+plain_start None = None
+plain_start (Some m) = Some (plain m)
+
+abbrev pub test_start_in : TokenKind → List ℕ → Option TestStart
+test_start_in Name text = if bytes_eq text (codes "NOT") then Some negation else plain_start (mark_named text)
+test_start_in _ text = None
+
+abbrev pub test_start : Lexeme → Option TestStart
+test_start w = test_start_in w.kind w.text
 
 -- ---- terms
 

@@ -6,11 +6,11 @@ use Rattle.bddl_model.specs.declared.game.Atom.{Atom}
 use Rattle.bddl_model.specs.declared.game.Move.{Move}
 use Rattle.bddl_model.specs.Game.{Game, Action, action_atoms, actions}
 use Rattle.bddl_model.specs.Board.{Board, with_mark}
-use Rattle.bddl_model.specs.Fitting.{led, fits, has_mark}
+use Rattle.bddl_model.specs.Fitting.{led, fits, test_holds}
 
--- the anchor fits all atoms of the action, and each precondition holds
+-- the anchor fits all atoms of the action, and each test of its preconditions holds
 abbrev pub may_act : Game → Board → Action → ℕ → ℕ → Bool
-may_act g board a x y = fits g.width g.height (action_atoms a) x y && list_all (has_mark g.width board x y) a.before
+may_act g board a x y = fits g.width g.height (action_atoms a) x y && list_all (test_holds g.width board x y) a.before
 
 abbrev pub legal_with : Game → Board → Option Action → ℕ → ℕ → Bool
 legal_with g board None x y = false

@@ -4,7 +4,7 @@ use Rattle.std.specs.List.{sum_by, count_by}
 use Rattle.bddl_model.specs.declared.game.Side.{Side}
 use Rattle.bddl_model.specs.declared.game.Side.TheVariants.{Black, White}
 use Rattle.bddl_model.specs.declared.game.Mark.TheVariants as marks
-use Rattle.bddl_model.specs.declared.game.Atom.{Atom}
+use Rattle.bddl_model.specs.declared.game.Test.{Test}
 use Rattle.bddl_model.specs.Truth.{Formula}
 use Rattle.bddl_model.specs.Game.{Game, Action, opponent}
 use Rattle.bddl_model.specs.Board.{Board, same_mark}
@@ -32,7 +32,7 @@ plies_units g side (suc n) = ply_units g side + plies_units g (opponent side) n
 abbrev pub moment_units : ℕ → ℕ
 moment_units depth = 4 * (depth + 1)
 
-abbrev pub line_units : List Atom → ℕ
+abbrev pub line_units : List Test → ℕ
 line_units line = length line + 2
 
 abbrev pub goal_units : Game → ℕ

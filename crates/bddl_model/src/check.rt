@@ -19,7 +19,7 @@ pub enum Axis {
     Height,
 }
 
-/// The part of an item that has atoms.
+/// The part of an item that has tests or atoms.
 #[derive(Clone, Copy, Debug, PartialEq, Eq)]
 pub enum Part {
     Before,

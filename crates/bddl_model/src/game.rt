@@ -4,7 +4,7 @@ ghost use Rattle.bddl_model.specs.Game as game;
 use crate::Span;
 
 /// The most columns and the most rows of a board.
-pub const GREATEST_SIDE: u32 = 16;
+pub const GREATEST_SIDE: u32 = 64;
 
 #[derive(Clone, Copy, Debug, PartialEq, Eq)]
 pub enum Side {
@@ -45,6 +45,13 @@ pub struct Atom {
     pub mark: Mark,
     pub x: Term,
     pub y: Term,
+}
+
+/// What is asked of a cell: that it has the atom's mark, or, negated, that it has another.
+#[derive(Clone, Copy, Debug, PartialEq, Eq)]
+pub struct Test {
+    pub atom: Atom,
+    pub negated: bool,
 }
 
 /// An action of a side, counted from 0, at an anchor, counted from 1.

@@ -21,13 +21,13 @@ pub use circuit::{Gate, NodeId, Wire};
 pub use command::Command;
 pub use fault::ReadFault;
 pub use formula::{Block, Bound, Kind, Lit, LitList, Quant, Span, Var};
-pub use game::{Atom, GREATEST_SIDE, Mark, Move, PlyBits, Rect, Side, Term};
+pub use game::{Atom, GREATEST_SIDE, Mark, Move, PlyBits, Rect, Side, Term, Test};
 pub use list::Items;
 pub use memory::NoMemory;
 pub use steps::Steps;
 pub use texts::{
     ActionList, ActionText, AtomList, AtomText, DomainText, InitAtom, InitList, LineList, NameText,
-    Place, ProblemText, TermText,
+    Place, ProblemText, TermText, TestList, TestText,
 };
 pub use tokens::{LexFault, Token, TokenFault, TokenKind};
 

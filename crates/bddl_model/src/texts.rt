@@ -1,6 +1,6 @@
 // What domain and problem files say, before any check.
 
-use crate::{Items, Mark};
+use crate::{Items, Mark, Side};
 
 /// A coordinate as it is written: `?x+1`, `3`, `xmin`, `xmax`.
 #[derive(Clone, Copy, Debug, PartialEq, Eq)]
@@ -19,6 +19,13 @@ pub struct AtomText {
     pub y: TermText,
 }
 
+/// What is asked of a cell: that it has the atom's mark, or, negated, that it has another.
+#[derive(Clone, Copy, Debug, PartialEq, Eq)]
+pub struct TestText {
+    pub atom: AtomText,
+    pub negated: bool,
+}
+
 /// The mark of one cell of the start board.
 #[derive(Clone, Copy, Debug, PartialEq, Eq)]
 pub struct InitAtom {
@@ -32,8 +39,10 @@ pub type NameText = Items<u8>;
 
 pub type AtomList = Items<AtomText>;
 
+pub type TestList = Items<TestText>;
+
 /// Goal lines.
-pub type LineList = Items<AtomList>;
+pub type LineList = Items<TestList>;
 
 pub type ActionList = Items<ActionText>;
 
@@ -43,7 +52,7 @@ pub type InitList = Items<InitAtom>;
 #[derive(Debug, Drop)]
 pub struct ActionText {
     pub name: NameText,
-    pub before: AtomList,
+    pub before: TestList,
     pub effects: AtomList,
 }
 
@@ -54,13 +63,14 @@ pub struct DomainText {
     pub white: ActionList,
 }
 
-/// A start board, a depth in plies, and both sides' goal lines.
+/// A start board, a depth in plies, the side that moves first, and both sides' goal lines.
 #[derive(Debug, Drop)]
 pub struct ProblemText {
     pub width: u32,
     pub height: u32,
     pub init: InitList,
     pub depth: u32,
+    pub first: Side,
     pub black: LineList,
     pub white: LineList,
 }

@@ -1,18 +1,19 @@
 -- Small texts and what they say.
-use Rattle.std.proofs.Common.{ℕ, List, [], ◌∷◌, refl, arith}
+use Rattle.std.proofs.Common.{ℕ, true, List, [], ◌∷◌, ◌++◌, refl, arith}
 use Rattle.std.specs.Prelude.{codes, pos, negsuc}
 use Rattle.bddl_model.specs.declared.tokens.TokenKind.{TokenKind}
 use Rattle.bddl_model.specs.declared.tokens.TokenKind.TheVariants.{Left, Right, Comma, Plus, Minus, VarX, VarY, Hash, Colon, Name, Number}
 use Rattle.bddl_model.specs.declared.tokens.Token.{Token}
 use Rattle.bddl_model.specs.declared.game.Mark.TheVariants as marks
+use Rattle.bddl_model.specs.declared.game.Side.TheVariants.{White}
 use Rattle.bddl_model.specs.declared.texts.TermText.TheVariants as terms
 use Rattle.bddl_model.specs.declared.fault.ReadFault.TheVariants as fault
 use Rattle.bddl_model.specs.Tokens.{Lexeme, Tokens, AreTokens, lexemes}
-use Rattle.bddl_model.specs.Grammar.{xterm, yterm, atom, action, domain}
+use Rattle.bddl_model.specs.Grammar.{xterm, yterm, atom, test, action, domain, problem}
 use Rattle.bddl_model.specs.Reading.{Reads, ReadFails}
 use Rattle.bddl_reader.specs.ListReaders.{many_at}
 use Rattle.bddl_reader.proofs.ExactWhole.{whole_takes, whole_stuck}
-use Rattle.bddl_reader.proofs.Lines.{exact_xterm, exact_yterm, exact_atom, exact_action, exact_domain}
+use Rattle.bddl_reader.proofs.Lines.{exact_xterm, exact_yterm, exact_atom, exact_test, exact_action, exact_domain, exact_problem}
 
 abbrev lexeme : TokenKind → List ℕ → Lexeme
 lexeme kind text = record { kind = kind; text = text }
@@ -76,6 +77,14 @@ black_beside = lexeme Name (codes "black") ∷ left ∷ var_x ∷ plus ∷ lexem
 black_beside_is : atom black_beside (record { mark = marks.Black; x = terms.Shift (pos 1); y = terms.Number 3 })
 black_beside_is = whole_takes exact_atom black_beside _ refl
 
+-- ---- `NOT(black(?x+1,3))`
+
+abbrev not_beside : List Lexeme
+not_beside = lexeme Name (codes "NOT") ∷ left ∷ (black_beside ++ right ∷ [])
+
+not_beside_is : test not_beside (record { atom = record { mark = marks.Black; x = terms.Shift (pos 1); y = terms.Number 3 }; negated = true })
+not_beside_is = whole_takes exact_test not_beside _ refl
+
 -- ---- `:action pass :parameters (?x,?y) :precondition () :effect ()`
 
 abbrev passing : List Lexeme
@@ -86,6 +95,18 @@ passing =
 passing_is : action passing (record { name = codes "pass"; before = []; effects = [] })
 unfolding many_at
 passing_is = whole_takes exact_action passing _ refl
+
+-- ---- `#boardsize 2 1 #init () #depth 4 #first white #blackgoals #whitegoals`
+
+abbrev white_begins : List Lexeme
+white_begins =
+    lexeme Hash (codes "#boardsize") ∷ lexeme Number (codes "2") ∷ lexeme Number (codes "1") ∷ lexeme Hash (codes "#init") ∷ left ∷ right
+    ∷ lexeme Hash (codes "#depth") ∷ lexeme Number (codes "4") ∷ lexeme Hash (codes "#first") ∷ lexeme Name (codes "white")
+    ∷ lexeme Hash (codes "#blackgoals") ∷ lexeme Hash (codes "#whitegoals") ∷ []
+
+white_begins_is : problem white_begins (record { width = 2; height = 1; init = []; depth = 4; first = White; black = []; white = [] })
+unfolding many_at
+white_begins_is = whole_takes exact_problem white_begins _ refl
 
 -- ---- a domain without actions, with a comment, as bytes
 

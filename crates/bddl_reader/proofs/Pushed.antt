@@ -13,6 +13,9 @@ behind base xs ys last now before is = is ∙ ap (λ t. t ++ ys) before ∙ appe
 pub four_pushed : (base a b c d one two three now : List ℕ) → one ≡ base ++ a → two ≡ one ++ b → three ≡ two ++ c → now ≡ three ++ d → now ≡ base ++ (a ++ (b ++ (c ++ d)))
 four_pushed base a b c d one two three now is_one is_two is_three is = rw (is, is_three, is_two, is_one) (simp append_assoc)
 
+pub five_pushed : (base a b c d e one two three four now : List ℕ) → one ≡ base ++ a → two ≡ one ++ b → three ≡ two ++ c → four ≡ three ++ d → now ≡ four ++ e → now ≡ base ++ (a ++ (b ++ (c ++ (d ++ e))))
+five_pushed base a b c d e one two three four now is_one is_two is_three is_four is = rw (is, is_four, is_three, is_two, is_one) (simp append_assoc)
+
 -- the first, and each other behind a space
 joined-first : {A : Type 0} (text_of : A → List ℕ) (x : A) (xs : List A) → joined (map text_of (x ∷ xs)) ≡ text_of x ++ flat_map (λ a. codes " " ++ text_of a) xs
 joined-first text_of x [] = sym (append-nil (text_of x))

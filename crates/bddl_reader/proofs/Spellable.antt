@@ -7,9 +7,11 @@ use Rattle.std.proofs.lemmas.Bool.{cases_Bool, and_parts, and_from, leb-true, lt
 use Rattle.bddl_model.specs.declared.tokens.TokenKind.{TokenKind}
 use Rattle.bddl_model.specs.declared.tokens.TokenKind.TheVariants.{VarX, VarY, Name, Number}
 use Rattle.bddl_model.specs.declared.fault.ReadFault.{ReadFault}
+use Rattle.bddl_model.specs.declared.game.Mark.{Mark}
 use Rattle.bddl_model.specs.declared.texts.TermText.{TermText}
 use Rattle.bddl_model.specs.declared.texts.TermText.TheVariants as terms
 use Rattle.bddl_model.specs.declared.texts.AtomText.{AtomText}
+use Rattle.bddl_model.specs.declared.texts.TestText.{TestText}
 use Rattle.bddl_model.specs.declared.texts.InitAtom.{InitAtom}
 use Rattle.bddl_model.specs.declared.texts.ActionText.{ActionText}
 use Rattle.bddl_model.specs.declared.texts.DomainText.{DomainText}
@@ -17,9 +19,9 @@ use Rattle.bddl_model.specs.declared.texts.ProblemText.{ProblemText}
 use Rattle.bddl_model.specs.Bytes.{is_digit, digits_from, digits_value}
 use Rattle.bddl_model.specs.Tokens.{Lexeme}
 use Rattle.bddl_model.specs.GrammarWords.{one, many}
-use Rattle.bddl_model.specs.Meanings.{is_name, name_in, a_name, number_in, a_number, Sign, up, down, signed, Start, whole, variable, whole_number, end_named, x_start_in, y_start_in}
-use Rattle.bddl_model.specs.Grammar.{shift, behind_start, xterm, yterm, atom, cell, atoms, cells, action, domain, problem}
-use Rattle.bddl_model.specs.Canonical.{is_short, term_can_be_spelled, atom_can_be_spelled, atoms_can_be_spelled, cell_can_be_spelled, action_can_be_spelled, domain_can_be_spelled, problem_can_be_spelled}
+use Rattle.bddl_model.specs.Meanings.{is_name, name_in, a_name, number_in, a_number, Sign, up, down, signed, Start, whole, variable, whole_number, end_named, x_start_in, y_start_in, TestStart, plain, negation}
+use Rattle.bddl_model.specs.Grammar.{shift, behind_start, xterm, yterm, behind_mark, atom, behind_test_start, test, cell, atoms, tests, cells, action, domain, problem}
+use Rattle.bddl_model.specs.Canonical.{is_short, term_can_be_spelled, atom_can_be_spelled, atoms_can_be_spelled, tests_can_be_spelled, cell_can_be_spelled, action_can_be_spelled, domain_can_be_spelled, problem_can_be_spelled}
 use Rattle.bddl_model.specs.Reading.{Reads}
 use Rattle.bddl_reader.proofs.Exact.{Text}
 
@@ -137,11 +139,23 @@ many_can : {A : Type 0} (P : Text Lexeme A) (can : A → Bool) → ((ws : List L
 many_can P can each ws [] read = refl
 many_can P can each ws (x ∷ xs) (a, b, splits, first, more) = and_from (can x) (list_all can xs) (each a x first) (many_can P can each b xs more)
 
-atom_can : (ws : List Lexeme) (a : AtomText) → atom ws a → atom_can_be_spelled a ≡ true
-atom_can ws a read =
-    let at_x = read.5.5 in
+behind_mark_can : (mark : Mark) (ws : List Lexeme) (a : AtomText) → behind_mark mark ws a → atom_can_be_spelled a ≡ true
+behind_mark_can mark ws a read =
+    let at_x = read.5 in
     let at_y = at_x.5.5 in
     rw at_y.5.5.1 (and_from (term_can_be_spelled at_x.0) (term_can_be_spelled at_y.0) (x_can at_x.1 at_x.0 at_x.4) (y_can at_y.1 at_y.0 at_y.4))
+
+atom_can : (ws : List Lexeme) (a : AtomText) → atom ws a → atom_can_be_spelled a ≡ true
+atom_can ws a read = behind_mark_can read.0 read.2 a read.5
+
+behind_test_start_can : (s : TestStart) (ws : List Lexeme) (t : TestText) → behind_test_start s ws t → atom_can_be_spelled t.atom ≡ true
+behind_test_start_can (plain mark) ws t read = rw read.5.1 (behind_mark_can mark read.1 read.0 read.4)
+behind_test_start_can negation ws t read =
+    let at_atom = read.5 in
+    rw at_atom.5.5.1 (atom_can at_atom.1 at_atom.0 at_atom.4)
+
+test_can : (ws : List Lexeme) (t : TestText) → test ws t → atom_can_be_spelled t.atom ≡ true
+test_can ws t read = behind_test_start_can read.0 read.2 t read.5
 
 cell_can : (ws : List Lexeme) (a : InitAtom) → cell ws a → cell_can_be_spelled a ≡ true
 cell_can ws a read =
@@ -153,6 +167,11 @@ atoms_can : (ws : List Lexeme) (xs : List AtomText) → atoms ws xs → atoms_ca
 atoms_can ws xs read =
     let found = read.5 in
     rw found.5.5.1 (many_can atom atom_can_be_spelled atom_can found.1 found.0 found.4)
+
+tests_can : (ws : List Lexeme) (xs : List TestText) → tests ws xs → tests_can_be_spelled xs ≡ true
+tests_can ws xs read =
+    let found = read.5 in
+    rw found.5.5.1 (many_can test (λ t. atom_can_be_spelled t.atom) test_can found.1 found.0 found.4)
 
 cells_can : (ws : List Lexeme) (xs : List InitAtom) → cells ws xs → list_all cell_can_be_spelled xs ≡ true
 cells_can ws xs read =
@@ -166,14 +185,14 @@ action_can ws a read =
     let name = read.5 in
     let before = name.5.5.5 in
     let effects = before.5.5 in
-    rw effects.5.1 (and_from (is_name name.0) (atoms_can_be_spelled before.0 && atoms_can_be_spelled effects.0) (one_name name.1 name.0 name.4) (
-    and_from (atoms_can_be_spelled before.0) (atoms_can_be_spelled effects.0) (atoms_can before.1 before.0 before.4) (atoms_can effects.1 effects.0 effects.4)))
+    rw effects.5.1 (and_from (is_name name.0) (tests_can_be_spelled before.0 && atoms_can_be_spelled effects.0) (one_name name.1 name.0 name.4) (
+    and_from (tests_can_be_spelled before.0) (atoms_can_be_spelled effects.0) (tests_can before.1 before.0 before.4) (atoms_can effects.1 effects.0 effects.4)))
 
 actions_can : (ws : List Lexeme) (xs : List ActionText) → many action ws xs → list_all action_can_be_spelled xs ≡ true
 actions_can = many_can action action_can_be_spelled action_can
 
-goals_can : (ws : List Lexeme) (lines : List (List AtomText)) → many atoms ws lines → list_all atoms_can_be_spelled lines ≡ true
-goals_can = many_can atoms atoms_can_be_spelled atoms_can
+goals_can : (ws : List Lexeme) (lines : List (List TestText)) → many tests ws lines → list_all tests_can_be_spelled lines ≡ true
+goals_can = many_can tests tests_can_be_spelled tests_can
 
 pub domain_can : (ws : List Lexeme) (d : DomainText) → domain ws d → domain_can_be_spelled d ≡ true
 domain_can ws d read =
@@ -187,7 +206,7 @@ problem_can ws p read =
     let height = width.5 in
     let init = height.5.5 in
     let depth = init.5.5 in
-    let black = depth.5.5 in
+    let black = depth.5.5.5 in
     let white = black.5.5 in
     rw white.5.5.1 (all_can (one_number width.1 width.0 width.4) (one_number height.1 height.0 height.4) (cells_can init.1 init.0 init.4) (one_number depth.1 depth.0 depth.4) (goals_can black.1 black.0 black.4) (goals_can white.1 white.0 white.4))
   where

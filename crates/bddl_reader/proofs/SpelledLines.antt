@@ -6,20 +6,23 @@ use Rattle.std.specs.Fmt.{decimal}
 use Rattle.std.proofs.lemmas.Bool.{and_parts, ltb-true}
 use Rattle.bddl_model.specs.declared.game.Mark.{Mark}
 use Rattle.bddl_model.specs.declared.game.Mark.TheVariants.{Free, Black, White}
+use Rattle.bddl_model.specs.declared.game.Side.{Side}
+use Rattle.bddl_model.specs.declared.game.Side.TheVariants as sides
 use Rattle.bddl_model.specs.declared.tokens.TokenKind.{TokenKind}
 use Rattle.bddl_model.specs.declared.tokens.TokenKind.TheVariants.{Left, Right, Comma, Plus, Minus, VarX, VarY, Hash, Colon, Name, Number}
 use Rattle.bddl_model.specs.declared.texts.TermText.{TermText}
 use Rattle.bddl_model.specs.declared.texts.TermText.TheVariants as terms
 use Rattle.bddl_model.specs.declared.texts.AtomText.{AtomText}
+use Rattle.bddl_model.specs.declared.texts.TestText.{TestText}
 use Rattle.bddl_model.specs.declared.texts.InitAtom.{InitAtom}
 use Rattle.bddl_model.specs.declared.texts.ActionText.{ActionText}
 use Rattle.bddl_model.specs.declared.texts.DomainText.{DomainText}
 use Rattle.bddl_model.specs.declared.texts.ProblemText.{ProblemText}
 use Rattle.bddl_model.specs.Tokens.{Lexeme, IsLexeme, is_gap}
-use Rattle.bddl_model.specs.GrammarWords.{one, many}
-use Rattle.bddl_model.specs.Meanings.{is, is_name, a_name, a_number, a_mark, a_sign, up, down, x_start, y_start, variable, whole}
-use Rattle.bddl_model.specs.Grammar.{left, right, comma, shift, xterm, yterm, atom, cell, atoms, cells, parameters, action, domain, problem}
-use Rattle.bddl_model.specs.Canonical.{mark_text, shift_text, x_text, y_text, atom_text, cell_text, listed, atoms_text, action_text, domain_text, goals_text, problem_text, is_short, shift_is_short, term_can_be_spelled, atom_can_be_spelled, atoms_can_be_spelled, cell_can_be_spelled, action_can_be_spelled, domain_can_be_spelled, problem_can_be_spelled}
+use Rattle.bddl_model.specs.GrammarWords.{one, many, optional}
+use Rattle.bddl_model.specs.Meanings.{is, is_name, a_name, a_number, a_mark, a_side, a_sign, up, down, x_start, y_start, variable, whole, plain, negation, test_start}
+use Rattle.bddl_model.specs.Grammar.{left, right, comma, shift, xterm, yterm, behind_mark, atom, test, cell, atoms, tests, cells, parameters, action, domain, problem}
+use Rattle.bddl_model.specs.Canonical.{mark_text, shift_text, x_text, y_text, atom_text, test_text, cell_text, listed, atoms_text, tests_text, action_text, domain_text, goals_text, first_text, problem_text, is_short, shift_is_short, term_can_be_spelled, atom_can_be_spelled, atoms_can_be_spelled, tests_can_be_spelled, cell_can_be_spelled, action_can_be_spelled, domain_can_be_spelled, problem_can_be_spelled}
 use Rattle.bddl_model.specs.Reading.{Reads}
 use Rattle.bddl_model.proofs.PlainTokens.{number_is}
 use Rattle.bddl_lexer.proofs.WrittenTokens.{EndsWord, name_token, decimal_token}
@@ -86,10 +89,25 @@ spelled_y terms.Greatest can = spells_end (spells_name y_start (codes "ymax") (w
 
 -- ---- marks at cells
 
-spelled_atom : (a : AtomText) → atom_can_be_spelled a ≡ true → Spells atom Anything (atom_text a) a
-spelled_atom a can =
+spelled_behind_mark : (a : AtomText) → atom_can_be_spelled a ≡ true → Spells (behind_mark a.mark) Anything (codes "(" ++ (x_text a.x ++ (codes "," ++ (y_text a.y ++ codes ")")))) a
+spelled_behind_mark a can =
     let p = and_parts (term_can_be_spelled a.x) (term_can_be_spelled a.y) can in
-    spells_then (spelled_mark a.mark) (spells_seq spelled_left (spells_then (spelled_x a.x p.0) (spells_seq spelled_comma (spells_then (spelled_y a.y p.1) (spells_end spelled_right (spells_done a)) (λ rest behind. refl))) (λ rest behind. refl))) (λ rest behind. refl)
+    spells_seq spelled_left (spells_then (spelled_x a.x p.0) (spells_seq spelled_comma (spells_then (spelled_y a.y p.1) (spells_end spelled_right (spells_done a)) (λ rest behind. refl))) (λ rest behind. refl))
+
+spelled_atom : (a : AtomText) → atom_can_be_spelled a ≡ true → Spells atom Anything (atom_text a) a
+spelled_atom a can = spells_then (spelled_mark a.mark) (spelled_behind_mark a can) (λ rest behind. refl)
+
+spelled_start : (mark : Mark) → Spells (one test_start) EndsWord (mark_text mark) (plain mark)
+spelled_start Free = spells_name test_start (codes "open") (plain Free) refl refl
+spelled_start Black = spells_name test_start (codes "black") (plain Black) refl refl
+spelled_start White = spells_name test_start (codes "white") (plain White) refl refl
+
+spelled_test_of : (a : AtomText) (negated : Bool) → atom_can_be_spelled a ≡ true → Spells test Anything (test_text (record { atom = a; negated = negated })) (record { atom = a; negated = negated })
+spelled_test_of a false can = spells_then (spelled_start a.mark) (spells_end (spelled_behind_mark a can) (spells_done _)) (λ rest behind. refl)
+spelled_test_of a true can = spells_then (spells_name test_start (codes "NOT") negation refl refl) (spells_seq spelled_left (spells_seq (spelled_atom a can) (spells_end spelled_right (spells_done _)))) (λ rest behind. refl)
+
+spelled_test : (t : TestText) → atom_can_be_spelled t.atom ≡ true → Spells test Anything (test_text t) t
+spelled_test t can = spelled_test_of t.atom t.negated can
 
 spelled_cell : (a : InitAtom) → cell_can_be_spelled a ≡ true → Spells cell Anything (cell_text a) a
 spelled_cell a can =
@@ -99,11 +117,14 @@ spelled_cell a can =
 spelled_atoms : (xs : List AtomText) → atoms_can_be_spelled xs ≡ true → Spells atoms Anything (atoms_text xs) xs
 spelled_atoms xs can = spells_seq spelled_left (spells_seq (spells_joined (record { item = spelled_atom }) xs can) (spells_end spelled_right (spells_done xs)))
 
+spelled_tests : (xs : List TestText) → tests_can_be_spelled xs ≡ true → Spells tests Anything (tests_text xs) xs
+spelled_tests xs can = spells_seq spelled_left (spells_seq (spells_joined (record { item = spelled_test }) xs can) (spells_end spelled_right (spells_done xs)))
+
 spelled_cells : (xs : List InitAtom) → list_all cell_can_be_spelled xs ≡ true → Spells cells Anything (listed (map cell_text xs)) xs
 spelled_cells xs can = spells_seq spelled_left (spells_seq (spells_joined (record { item = spelled_cell }) xs can) (spells_end spelled_right (spells_done xs)))
 
-spelled_goals : (lines : List (List AtomText)) → list_all atoms_can_be_spelled lines ≡ true → Spells (many atoms) Anything (goals_text lines) lines
-spelled_goals lines can = spells_many (record { item = λ xs each. spells_line (spelled_atoms xs each) }) lines can
+spelled_goals : (lines : List (List TestText)) → list_all tests_can_be_spelled lines ≡ true → Spells (many tests) Anything (goals_text lines) lines
+spelled_goals lines can = spells_many (record { item = λ xs each. spells_line (spelled_tests xs each) }) lines can
 
 -- ---- domains
 
@@ -120,12 +141,12 @@ action_pieces word name parameters before_word before effect_word effects feed =
 
 spelled_action : (a : ActionText) → action_can_be_spelled a ≡ true → Spells action Anything (action_text a) a
 spelled_action a can =
-    let p = and_parts (is_name a.name) (atoms_can_be_spelled a.before && atoms_can_be_spelled a.effects) can in
-    let q = and_parts (atoms_can_be_spelled a.before) (atoms_can_be_spelled a.effects) p.1 in
-    respelled (action_pieces (codes ":action ") a.name (codes ":parameters (?x, ?y)\n") (codes ":precondition ") (atoms_text a.before) (codes ":effect ") (atoms_text a.effects) (codes "\n")) (
+    let p = and_parts (is_name a.name) (tests_can_be_spelled a.before && atoms_can_be_spelled a.effects) can in
+    let q = and_parts (tests_can_be_spelled a.before) (atoms_can_be_spelled a.effects) p.1 in
+    respelled (action_pieces (codes ":action ") a.name (codes ":parameters (?x, ?y)\n") (codes ":precondition ") (tests_text a.before) (codes ":effect ") (atoms_text a.effects) (codes "\n")) (
     spells_seq (spelled_word Colon (codes ":action") (codes " ") refl refl (λ rest. refl)) (
     spells_seq (before_gap (spelled_name a.name p.0) (codes "\n") refl (λ rest. refl)) (spells_seq spelled_parameters (
-    spells_seq (spelled_word Colon (codes ":precondition") (codes " ") refl refl (λ rest. refl)) (spells_seq (spells_line (spelled_atoms a.before q.0)) (
+    spells_seq (spelled_word Colon (codes ":precondition") (codes " ") refl refl (λ rest. refl)) (spells_seq (spells_line (spelled_tests a.before q.0)) (
     spells_seq (spelled_word Colon (codes ":effect") (codes " ") refl refl (λ rest. refl)) (spells_end (spells_line (spelled_atoms a.effects q.1)) (
     spells_done a))))))))
 
@@ -140,6 +161,10 @@ spelled_domain d can =
     spells_end (spells_done tt) (spells_done d)))))
 
 -- ---- problems
+
+spelled_first : (side : Side) → Spells (optional (is Hash (codes "#first")) (λ u. one a_side) sides.Black) Anything (first_text side) side
+spelled_first sides.Black = spells_none (is Hash (codes "#first")) _ sides.Black
+spelled_first sides.White = spells_some sides.Black (spells_seq (spelled_word Hash (codes "#first") (codes " ") refl refl (λ rest. refl)) (before_gap (spells_name a_side (codes "white") sides.White refl refl) (codes "\n") refl (λ rest. refl)))
 
 six_parts : (a b c d e f : Bool) → (a && (b && (c && (d && (e && f))))) ≡ true → (a ≡ true) × (b ≡ true) × (c ≡ true) × (d ≡ true) × (e ≡ true) × (f ≡ true)
 six_parts a b c d e f all =
@@ -157,15 +182,15 @@ problem_pieces word width space height feed init_word init depth_word depth goal
 
 spelled_problem : (p : ProblemText) → problem_can_be_spelled p ≡ true → Spells problem Anything (problem_text p) p
 spelled_problem p can =
-    let (width, height, init, depth, black, white) = six_parts (is_short p.width) (is_short p.height) (list_all cell_can_be_spelled p.init) (is_short p.depth) (list_all atoms_can_be_spelled p.black) (list_all atoms_can_be_spelled p.white) can in
-    respelled (problem_pieces (codes "#boardsize ") (decimal p.width) (codes " ") (decimal p.height) (codes "\n") (codes "#init ") (listed (map cell_text p.init)) (codes "#depth ") (decimal p.depth) (codes "#blackgoals\n" ++ (goals_text p.black ++ (codes "#whitegoals\n" ++ goals_text p.white)))) (
+    let (width, height, init, depth, black, white) = six_parts (is_short p.width) (is_short p.height) (list_all cell_can_be_spelled p.init) (is_short p.depth) (list_all tests_can_be_spelled p.black) (list_all tests_can_be_spelled p.white) can in
+    respelled (problem_pieces (codes "#boardsize ") (decimal p.width) (codes " ") (decimal p.height) (codes "\n") (codes "#init ") (listed (map cell_text p.init)) (codes "#depth ") (decimal p.depth) (first_text p.first ++ (codes "#blackgoals\n" ++ (goals_text p.black ++ (codes "#whitegoals\n" ++ goals_text p.white))))) (
     spells_seq (spelled_word Hash (codes "#boardsize") (codes " ") refl refl (λ rest. refl)) (
     spells_seq (before_gap (spelled_number p.width width) (codes " ") refl (λ rest. refl)) (spells_seq (before_gap (spelled_number p.height height) (codes "\n") refl (λ rest. refl)) (
     spells_seq (spelled_word Hash (codes "#init") (codes " ") refl refl (λ rest. refl)) (spells_seq (spells_line (spelled_cells p.init init)) (
-    spells_seq (spelled_word Hash (codes "#depth") (codes " ") refl refl (λ rest. refl)) (spells_seq (before_gap (spelled_number p.depth depth) (codes "\n") refl (λ rest. refl)) (
+    spells_seq (spelled_word Hash (codes "#depth") (codes " ") refl refl (λ rest. refl)) (spells_seq (before_gap (spelled_number p.depth depth) (codes "\n") refl (λ rest. refl)) (spells_seq (spelled_first p.first) (
     spells_seq (spelled_word Hash (codes "#blackgoals") (codes "\n") refl refl (λ rest. refl)) (spells_seq (spelled_goals p.black black) (
     spells_seq (spelled_word Hash (codes "#whitegoals") (codes "\n") refl refl (λ rest. refl)) (spells_end (spelled_goals p.white white) (
-    spells_end (spells_done tt) (spells_done p)))))))))))))
+    spells_end (spells_done tt) (spells_done p))))))))))))))
 
 -- ---- whole texts
 

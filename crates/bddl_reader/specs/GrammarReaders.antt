@@ -1,15 +1,19 @@
 -- Readers of domain and problem files, a definition for each line of the grammar.
-use Rattle.std.specs.Prelude.{ℕ, List, Option, codes, pos}
+use Rattle.std.specs.Prelude.{ℕ, true, false, List, Option, codes, pos}
 use Rattle.bddl_model.specs.declared.tokens.TokenKind.TheVariants.{Left, Right, Comma, VarX, VarY, Hash, Colon}
+use Rattle.bddl_model.specs.declared.game.Mark.{Mark}
+use Rattle.bddl_model.specs.declared.game.Side.{Side}
+use Rattle.bddl_model.specs.declared.game.Side.TheVariants.{Black}
 use Rattle.bddl_model.specs.declared.texts.TermText.{TermText}
 use Rattle.bddl_model.specs.declared.texts.TermText.TheVariants as terms
 use Rattle.bddl_model.specs.declared.texts.AtomText.{AtomText}
+use Rattle.bddl_model.specs.declared.texts.TestText.{TestText}
 use Rattle.bddl_model.specs.declared.texts.InitAtom.{InitAtom}
 use Rattle.bddl_model.specs.declared.texts.ActionText.{ActionText}
 use Rattle.bddl_model.specs.declared.texts.DomainText.{DomainText}
 use Rattle.bddl_model.specs.declared.texts.ProblemText.{ProblemText}
 use Rattle.bddl_model.specs.Tokens.{Lexeme}
-use Rattle.bddl_model.specs.Meanings.{is, a_name, a_number, a_mark, a_sign, signed, Start, whole, variable, x_start, y_start}
+use Rattle.bddl_model.specs.Meanings.{is, a_name, a_number, a_mark, a_side, a_sign, signed, Start, whole, variable, x_start, y_start, TestStart, plain, negation, test_start}
 use Rattle.bddl_reader.specs.declared.terms.Coordinate.{Coordinate}
 use Rattle.bddl_reader.specs.declared.terms.Coordinate.TheVariants as coordinates
 use Rattle.bddl_reader.specs.ListReaders.{Reader, done_at, one_at, ◌>>=◌, listed, optional_at, ended_at}
@@ -47,15 +51,30 @@ term_at coordinate = one_at (start_of coordinate) >>= behind_start_at
 
 -- ---- marks at cells
 
-abbrev pub atom_at : Reader Lexeme AtomText
-atom_at = do
-  mark ← one_at a_mark
+abbrev pub behind_mark_at : Mark → Reader Lexeme AtomText
+behind_mark_at mark = do
   _ ← left_at
   x ← term_at coordinates.X
   _ ← comma_at
   y ← term_at coordinates.Y
   _ ← right_at
   done_at (record { mark = mark; x = x; y = y })
+
+abbrev pub atom_at : Reader Lexeme AtomText
+atom_at = one_at a_mark >>= behind_mark_at
+
+abbrev pub behind_test_start_at : TestStart → Reader Lexeme TestText
+behind_test_start_at (plain mark) = do
+  a ← behind_mark_at mark
+  done_at (record { atom = a; negated = false })
+behind_test_start_at negation = do
+  _ ← left_at
+  a ← atom_at
+  _ ← right_at
+  done_at (record { atom = a; negated = true })
+
+abbrev pub test_at : Reader Lexeme TestText
+test_at = one_at test_start >>= behind_test_start_at
 
 abbrev pub cell_at : Reader Lexeme InitAtom
 cell_at = do
@@ -78,11 +97,14 @@ enclosed_at inside = do
 abbrev pub atoms_at : Reader Lexeme (List AtomText)
 atoms_at = enclosed_at (listed a_mark atom_at)
 
+abbrev pub tests_at : Reader Lexeme (List TestText)
+tests_at = enclosed_at (listed test_start test_at)
+
 abbrev pub cells_at : Reader Lexeme (List InitAtom)
 cells_at = enclosed_at (listed a_mark cell_at)
 
-abbrev pub lines_at : Reader Lexeme (List (List AtomText))
-lines_at = listed (is Left (codes "(")) atoms_at
+abbrev pub lines_at : Reader Lexeme (List (List TestText))
+lines_at = listed (is Left (codes "(")) tests_at
 
 -- ---- domains
 
@@ -101,7 +123,7 @@ action_at = do
   name ← one_at a_name
   _ ← parameters_at
   _ ← colon_at (codes ":precondition")
-  before ← atoms_at
+  before ← tests_at
   _ ← colon_at (codes ":effect")
   effects ← atoms_at
   done_at (record { name = name; before = before; effects = effects })
@@ -120,6 +142,9 @@ domain_at = do
 
 -- ---- problems
 
+abbrev pub first_at : Reader Lexeme Side
+first_at = optional_at (is Hash (codes "#first")) (λ _. one_at a_side) Black
+
 abbrev pub problem_at : Reader Lexeme ProblemText
 problem_at = do
   _ ← hash_at (codes "#boardsize")
@@ -129,9 +154,10 @@ problem_at = do
   init ← cells_at
   _ ← hash_at (codes "#depth")
   depth ← one_at a_number
+  first ← first_at
   _ ← hash_at (codes "#blackgoals")
   black ← lines_at
   _ ← hash_at (codes "#whitegoals")
   white ← lines_at
   _ ← ended_at
-  done_at (record { width = width; height = height; init = init; depth = depth; black = black; white = white })
+  done_at (record { width = width; height = height; init = init; depth = depth; first = first; black = black; white = white })

@@ -16,6 +16,7 @@ mod numbers;
 mod printing;
 mod problem;
 mod reading;
+mod sides;
 mod single;
 mod stop;
 mod terms;

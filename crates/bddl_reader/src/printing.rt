@@ -3,7 +3,7 @@
 ghost use Rattle.std.specs.Prelude.{◌≡◌, ◌++◌, IsTrue, IfOk, OnOk, map, flat_map, codes, decimal};
 ghost use Rattle.bddl_model.specs.Grammar.{domain, problem};
 ghost use Rattle.bddl_model.specs.Reading.{Reads};
-ghost use Rattle.bddl_model.specs.Canonical.{listed, line, atoms_text, cell_text, action_text, domain_text, goals_text, problem_text, domain_can_be_spelled, problem_can_be_spelled};
+ghost use Rattle.bddl_model.specs.Canonical.{listed, line, action_text, domain_text, goals_text, first_text, problem_text, domain_can_be_spelled, problem_can_be_spelled};
 
 mod atoms;
 mod cells;
@@ -11,8 +11,8 @@ mod list;
 mod terms;
 mod words;
 
-use bddl_model::{ActionText, AtomList, AtomText, DomainText, InitAtom, NoMemory, ProblemText};
-use list::push_list;
+use bddl_model::{ActionText, DomainText, NoMemory, ProblemText, Side, TestList};
+use list::{Printed, push_list};
 use std::alloc::Global;
 use words::{push, push_number};
 
@@ -61,8 +61,8 @@ fn push_action(text: &mut Vec<u8>, action: &ActionText) -> Result<(), NoMemory>
 {
     push_name_line(text, action.name.as_slice())?;
     push(text, b":parameters (?x, ?y)\n")?;
-    push_atoms_line(text, b":precondition ", action.before.as_slice())?;
-    push_atoms_line(text, b":effect ", action.effects.as_slice())
+    push_list_line(text, b":precondition ", action.before.as_slice())?;
+    push_list_line(text, b":effect ", action.effects.as_slice())
 }
 
 fn push_name_line(text: &mut Vec<u8>, name: &[u8]) -> Result<(), NoMemory>
@@ -73,12 +73,12 @@ fn push_name_line(text: &mut Vec<u8>, name: &[u8]) -> Result<(), NoMemory>
     push(text, b"\n")
 }
 
-// Atoms behind a word.
-fn push_atoms_line(text: &mut Vec<u8>, word: &[u8], atoms: &[AtomText]) -> Result<(), NoMemory>
-    ensures { OnOk result (text.new.items ≡ text.old.items ++ line (word.now ++ atoms_text atoms.now)) }
+// A list behind a word.
+fn push_list_line<P: Printed>(text: &mut Vec<u8>, word: &[u8], items: &[P]) -> Result<(), NoMemory>
+    ensures { OnOk result (text.new.items ≡ text.old.items ++ line (word.now ++ listed (map P.text_of items.now))) }
 {
     push(text, word)?;
-    push_list(text, atoms)?;
+    push_list(text, items)?;
     push(text, b"\n")
 }
 
@@ -86,8 +86,9 @@ fn push_problem(text: &mut Vec<u8>, problem: &ProblemText) -> Result<(), NoMemor
     ensures { OnOk result (text.new.items ≡ text.old.items ++ problem_text problem.now) }
 {
     push_size(text, problem.width, problem.height)?;
-    push_init(text, problem.init.as_slice())?;
+    push_list_line(text, b"#init ", problem.init.as_slice())?;
     push_depth(text, problem.depth)?;
+    push_first(text, problem.first)?;
     push_goals(text, problem.black.as_slice(), problem.white.as_slice())
 }
 
@@ -101,14 +102,6 @@ fn push_size(text: &mut Vec<u8>, width: u32, height: u32) -> Result<(), NoMemory
     push(text, b"\n")
 }
 
-fn push_init(text: &mut Vec<u8>, cells: &[InitAtom]) -> Result<(), NoMemory>
-    ensures { OnOk result (text.new.items ≡ text.old.items ++ line (codes "#init " ++ listed (map cell_text cells.now))) }
-{
-    push(text, b"#init ")?;
-    push_list(text, cells)?;
-    push(text, b"\n")
-}
-
 fn push_depth(text: &mut Vec<u8>, depth: u32) -> Result<(), NoMemory>
     ensures { OnOk result (text.new.items ≡ text.old.items ++ line (codes "#depth " ++ decimal depth)) }
 {
@@ -117,7 +110,16 @@ fn push_depth(text: &mut Vec<u8>, depth: u32) -> Result<(), NoMemory>
     push(text, b"\n")
 }
 
-fn push_goals(text: &mut Vec<u8>, black: &[AtomList], white: &[AtomList]) -> Result<(), NoMemory>
+fn push_first(text: &mut Vec<u8>, first: Side) -> Result<(), NoMemory>
+    ensures { OnOk result (text.new.items ≡ text.old.items ++ first_text first) }
+{
+    match first {
+        Side::Black => Ok(()),
+        Side::White => push(text, b"#first white\n"),
+    }
+}
+
+fn push_goals(text: &mut Vec<u8>, black: &[TestList], white: &[TestList]) -> Result<(), NoMemory>
     ensures { OnOk result (text.new.items ≡ text.old.items ++ (line (codes "#blackgoals") ++ (goals_text black.now ++ (line (codes "#whitegoals") ++ goals_text white.now)))) }
 {
     push(text, b"#blackgoals\n")?;
@@ -126,11 +128,11 @@ fn push_goals(text: &mut Vec<u8>, black: &[AtomList], white: &[AtomList]) -> Res
     push_goal_lines(text, white)
 }
 
-fn push_goal_lines(text: &mut Vec<u8>, lines: &[AtomList]) -> Result<(), NoMemory>
+fn push_goal_lines(text: &mut Vec<u8>, lines: &[TestList]) -> Result<(), NoMemory>
     ensures { OnOk result (text.new.items ≡ text.old.items ++ goals_text lines.now) }
 {
-    for atoms in lines {
-        push_list(text, atoms.as_slice())?;
+    for tests in lines {
+        push_list(text, tests.as_slice())?;
         push(text, b"\n")?;
     }
     Ok(())

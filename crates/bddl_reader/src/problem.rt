@@ -7,6 +7,7 @@ ghost use Rattle.bddl_reader.specs.GrammarReaders.{problem_at};
 
 use crate::list::{enclosed, listed};
 use crate::numbers::number;
+use crate::sides::first_side;
 use crate::single::{ended, token};
 use crate::stop::Stop;
 use bddl_model::{ProblemText, Token, TokenKind};
@@ -22,6 +23,7 @@ pub fn problem(alloc: Global, bytes: &[u8], tokens: &[Token]) -> Result<ProblemT
     let (init, rest) = enclosed(alloc, bytes, rest)?;
     let rest = token(bytes, rest, TokenKind::Hash, b"#depth")?;
     let (depth, rest) = number(bytes, rest)?;
+    let (first, rest) = first_side(bytes, rest)?;
     let rest = token(bytes, rest, TokenKind::Hash, b"#blackgoals")?;
     let (black, rest) = listed(alloc, bytes, rest)?;
     let rest = token(bytes, rest, TokenKind::Hash, b"#whitegoals")?;
@@ -32,6 +34,7 @@ pub fn problem(alloc: Global, bytes: &[u8], tokens: &[Token]) -> Result<ProblemT
         height,
         init,
         depth,
+        first,
         black,
         white,
     })

@@ -18,7 +18,7 @@ pub fn text_of<'a>(bytes: &'a [u8], token: &Token) -> &'a [u8]
     if start < end { &bytes[start..end] } else { &[] }
 }
 
-fn is_token(bytes: &[u8], token: &Token, kind: TokenKind, text: &[u8]) -> bool
+pub fn is_token(bytes: &[u8], token: &Token, kind: TokenKind, text: &[u8]) -> bool
     ensures { result ≡ (same_kind token.now.kind kind && bytes_eq (spelling bytes.now token.now) text.now) }
 {
     token.kind == kind && text_of(bytes, token) == text
@@ -77,7 +77,7 @@ fn mark_named(text: &[u8]) -> Option<Mark>
     }
 }
 
-fn mark_of(bytes: &[u8], token: &Token) -> Option<Mark>
+pub fn mark_of(bytes: &[u8], token: &Token) -> Option<Mark>
     ensures { result ≡ mark_in token.now.kind (spelling bytes.now token.now) }
 {
     match token.kind {

@@ -6,7 +6,7 @@ use Rattle.bddl_model.specs.declared.game.Move.{Move}
 use Rattle.bddl_model.specs.declared.game.Side.{Side}
 use Rattle.bddl_model.specs.Board.{Board}
 use Rattle.bddl_model.specs.Fitting.{fits}
-use Rattle.bddl_model.specs.Game.{Game, action_atoms, actions, action_at}
+use Rattle.bddl_model.specs.Game.{Game, action_atoms, test_atoms, actions, action_at}
 use Rattle.bddl_model.specs.Moves.{legal_with, legal, effects_of, written, after}
 use Rattle.bddl_model.proofs.Anchors.{fits_second}
 
@@ -25,7 +25,7 @@ action_fits g board side m l =
 pub effects_fit : (g : Game) (board : Board) (side : Side) (m : Move) → legal g board side m ≡ true → fits g.width g.height (action_at g side m.action).effects m.x m.y ≡ true
 effects_fit g board side m l =
     let a = action_at g side m.action in
-    fits_second g.width g.height m.x m.y a.before a.effects (action_fits g board side m l)
+    fits_second g.width g.height m.x m.y (test_atoms a.before) a.effects (action_fits g board side m l)
 
 pub after_legal : (g : Game) (board : Board) (side : Side) (m : Move) → legal g board side m ≡ true → after g board side m ≡ written g m.x m.y (action_at g side m.action).effects board
 after_legal g board side m l =

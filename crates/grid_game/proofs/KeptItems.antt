@@ -2,7 +2,7 @@
 use Rattle.std.proofs.Common.{◌≡◌, ℕ, ◌<◌, Bool, true, false, if◌then◌else◌, List, [], ◌∷◌, ◌++◌, length, length-append, sym, subst, arith}
 use Rattle.std.proofs.lemmas.List.{map_push}
 use Rattle.std.proofs.lemmas.List.Elements.{All-push}
-use Rattle.bddl_model.specs.declared.game.Atom.{Atom}
+use Rattle.bddl_model.specs.declared.game.Test.{Test}
 use Rattle.bddl_model.specs.declared.game.Rect.{Rect}
 use Rattle.bddl_model.specs.Game.{Action, action_atoms, line_atoms}
 use Rattle.bddl_model.specs.Limits.{IsAction, IsLine, AreItems, IsGame}
@@ -51,28 +51,28 @@ action_kept width height old new stored given rect false kept few is exact same 
 action_kept width height old new stored given rect true kept few is exact same same_rect actions lines =
     more_actions width height old new stored kept few (rw same is) (subst (λ (a : Action). IsRectOf width height (action_atoms a) stored.rect) (sym same) (rw same_rect exact)) actions lines
 
-abbrev atoms_of : StoredLine → List Atom
-atoms_of line = line.atoms.items
+abbrev tests_of : StoredLine → List Test
+tests_of line = line.tests.items
 
 more_lines : (width height : ℕ) (old new : Items) (line : StoredLine) → Kept width height old
-    → length (lines_of old) < 256 → IsLine width height (atoms_of line) → IsRectOf width height (line_atoms (atoms_of line)) line.rect
+    → length (lines_of old) < 256 → IsLine width height (tests_of line) → IsRectOf width height (line_atoms (tests_of line)) line.rect
     → new.lines.items ≡ old.lines.items ++ line ∷ [] → new.actions.items ≡ old.actions.items → Kept width height new
 more_lines width height old new line kept few is rect lines actions = record {
-  limits = rw (actions, lines, map_push atoms_of old.lines.items line) (record {
+  limits = rw (actions, lines, map_push tests_of old.lines.items line) (record {
     few_actions = kept.limits.few_actions;
     each_action = kept.limits.each_action;
-    few_lines = omega (arith, length-append (lines_of old) (atoms_of line ∷ []));
-    each_line = All-push (IsLine width height) (lines_of old) (atoms_of line) kept.limits.each_line is;
+    few_lines = omega (arith, length-append (lines_of old) (tests_of line ∷ []));
+    each_line = All-push (IsLine width height) (lines_of old) (tests_of line) kept.limits.each_line is;
   });
   rects = record {
     actions = rw actions kept.rects.actions;
-    lines = rw lines (All-push (λ (l : StoredLine). IsRectOf width height (line_atoms (atoms_of l)) l.rect) old.lines.items line kept.rects.lines rect);
+    lines = rw lines (All-push (λ (l : StoredLine). IsRectOf width height (line_atoms (tests_of l)) l.rect) old.lines.items line kept.rects.lines rect);
   };
 }
 
 -- a line that is stored for the one that was given
-pub line_kept : (width height : ℕ) (old new : Items) (stored : StoredLine) (given : List Atom) (rect : Rect) (added : Bool) → Kept width height old
-    → length (lines_of old) < 256 → IsLine width height given → IsRectOf width height (line_atoms given) rect → atoms_of stored ≡ given → stored.rect ≡ rect
+pub line_kept : (width height : ℕ) (old new : Items) (stored : StoredLine) (given : List Test) (rect : Rect) (added : Bool) → Kept width height old
+    → length (lines_of old) < 256 → IsLine width height given → IsRectOf width height (line_atoms given) rect → tests_of stored ≡ given → stored.rect ≡ rect
     → new.lines.items ≡ (if added then old.lines.items ++ stored ∷ [] else old.lines.items) → new.actions.items ≡ old.actions.items → Kept width height new
 line_kept width height old new stored given rect false kept few is exact same same_rect lines actions = same_kept width height old new kept actions lines
 line_kept width height old new stored given rect true kept few is exact same same_rect lines actions =

@@ -6,7 +6,7 @@ use Rattle.std.proofs.lemmas.Bool.{and_parts, and_from, le-leb}
 use Rattle.std.proofs.lemmas.List.Folds.{list_all-append}
 use Rattle.bddl_model.specs.declared.game.Atom.{Atom}
 use Rattle.bddl_model.specs.declared.game.Rect.{Rect}
-use Rattle.bddl_model.specs.Game.{Action, action_atoms}
+use Rattle.bddl_model.specs.Game.{Action, action_atoms, test_atoms}
 use Rattle.bddl_model.specs.Fitting.{on_side, on_board}
 use Rattle.bddl_model.specs.Rectangle.{in_rect, IsRectOf}
 use Rattle.bddl_model.proofs.Anchors.{InRect, in_rect_fits, anchor_on_board, on_side_low, on_side_high}
@@ -34,8 +34,8 @@ rect_on_board width height atoms r is =
     }
 
 -- from an anchor in the rectangle of an action the cells of its preconditions are on the board
-pub cells_inside : (width height : ℕ) (a : Action) (r : Rect) (x y : ℕ) → IsRectOf width height (action_atoms a) r → InRect r x y → list_all (on_board width height x y) a.before ≡ true
+pub cells_inside : (width height : ℕ) (a : Action) (r : Rect) (x y : ℕ) → IsRectOf width height (action_atoms a) r → InRect r x y → list_all (on_board width height x y) (test_atoms a.before) ≡ true
 cells_inside width height a r x y is here =
     let fit = and_parts (on_side width x) (on_side height y && list_all (on_board width height x y) (action_atoms a)) (in_rect_fits width height (action_atoms a) r x y is here) in
     let cells = and_parts (on_side height y) (list_all (on_board width height x y) (action_atoms a)) fit.1 in
-    (and_parts _ _ (sym (list_all-append (on_board width height x y) a.before a.effects) ∙ cells.1)).0
+    (and_parts _ _ (sym (list_all-append (on_board width height x y) (test_atoms a.before) a.effects) ∙ cells.1)).0

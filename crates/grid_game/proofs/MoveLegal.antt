@@ -9,10 +9,10 @@ use Rattle.bddl_model.specs.declared.game.Move.{Move}
 use Rattle.bddl_model.specs.declared.game.Rect.{Rect}
 use Rattle.bddl_model.specs.Game.{Game, Action, action_atoms, actions, action_at}
 use Rattle.bddl_model.specs.Board.{Board, SizedBoard}
-use Rattle.bddl_model.specs.Fitting.{has_mark}
+use Rattle.bddl_model.specs.Fitting.{test_holds}
 use Rattle.bddl_model.specs.Rectangle.{in_rect, IsRectOf}
 use Rattle.bddl_model.specs.Moves.{legal, legal_with, may_act}
-use Rattle.grid_game.specs.Listed.{move_at, row_moves, action_moves, marks_stand}
+use Rattle.grid_game.specs.Listed.{move_at, row_moves, action_moves, tests_hold}
 use Rattle.grid_game.proofs.MoveRanges.{nothing_in_range, within_range, same_in_range, filter-map, filter-flat_map}
 use Rattle.grid_game.proofs.MoveAnchors.{anchor_inside, rect_on_board}
 
@@ -33,11 +33,11 @@ nothing_outside : (g : Game) (board : Board) (side : Side) (action x y : ℕ) (a
 nothing_outside g board side action x y a r acts out = legal_is g board side action x y a acts.is ∙ and_left _ _ (sym (acts.rect.anchors x y) ∙ out)
 
 legal_inside : (g : Game) (b : SizedBoard) (side : Side) (action x y : ℕ) (a : Action) (r : Rect) → b.width ≡ g.width → ActsIn g side action a r → in_rect r x y ≡ true
-    → legal g b.marks side (move_at action y x) ≡ marks_stand b a.before (move_at action y x)
+    → legal g b.marks side (move_at action y x) ≡ tests_hold b a.before (move_at action y x)
 legal_inside g b side action x y a r size acts inside =
     legal_is g b.marks side action x y a acts.is
-    ∙ ap (λ fit. fit && list_all (has_mark g.width b.marks x y) a.before) (sym (acts.rect.anchors x y) ∙ inside)
-    ∙ ap (λ width. list_all (has_mark width b.marks x y) a.before) (sym size)
+    ∙ ap (λ fit. fit && list_all (test_holds g.width b.marks x y) a.before) (sym (acts.rect.anchors x y) ∙ inside)
+    ∙ ap (λ width. list_all (test_holds width b.marks x y) a.before) (sym size)
 
 -- ---- in a row
 
@@ -56,7 +56,7 @@ row_kept p action y x n = filter-map p (move_at action y) (range_with_len x n)
 
 -- in a row of the rectangle
 pub legal_row : (g : Game) (b : SizedBoard) (side : Side) (action y : ℕ) (a : Action) (r : Rect) → b.width ≡ g.width → ActsIn g side action a r → r.y_low ≤ y → y ≤ r.y_high
-    → filter (legal g b.marks side) (row_moves action y 1 g.width) ≡ filter (marks_stand b a.before) (row_moves action y r.x_low (r.x_high + 1 - r.x_low))
+    → filter (legal g b.marks side) (row_moves action y 1 g.width) ≡ filter (tests_hold b a.before) (row_moves action y r.x_low (r.x_high + 1 - r.x_low))
 legal_row g b side action y a r size acts top bottom =
     let p = legal g b.marks side in
     let on = rect_on_board g.width g.height (action_atoms a) r acts.rect in
@@ -64,9 +64,9 @@ legal_row g b side action y a r size acts top bottom =
     ∙ within_range (kept p action y) r.x_low r.x_high g.width on.x_low acts.rect.columns on.x_high
     (λ x before. kept_nothing p action y x (nothing_outside g b.marks side action x y a r acts (and_left _ _ (and_left _ _ (lt-leb _ _ before)))))
     (λ x behind. kept_nothing p action y x (nothing_outside g b.marks side action x y a r acts (and_left _ _ (and_right _ _ (lt-leb _ _ behind)))))
-    ∙ same_in_range (kept p action y) (kept (marks_stand b a.before) action y) r.x_low (r.x_high + 1 - r.x_low)
-    (λ x left right. kept_same p (marks_stand b a.before) action y x (legal_inside g b side action x y a r size acts (anchor_inside r x y left (omega arith) top bottom)))
-    ∙ sym (row_kept (marks_stand b a.before) action y r.x_low (r.x_high + 1 - r.x_low))
+    ∙ same_in_range (kept p action y) (kept (tests_hold b a.before) action y) r.x_low (r.x_high + 1 - r.x_low)
+    (λ x left right. kept_same p (tests_hold b a.before) action y x (legal_inside g b side action x y a r size acts (anchor_inside r x y left (omega arith) top bottom)))
+    ∙ sym (row_kept (tests_hold b a.before) action y r.x_low (r.x_high + 1 - r.x_low))
 
 -- in a row outside of it
 nothing_in_row : (g : Game) (board : Board) (side : Side) (action y : ℕ) (a : Action) (r : Rect) → ActsIn g side action a r → ((x : ℕ) → in_rect r x y ≡ false) → filter (legal g board side) (row_moves action y 1 g.width) ≡ []

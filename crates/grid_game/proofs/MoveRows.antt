@@ -4,13 +4,13 @@ use Rattle.std.specs.Prelude.{filter}
 use Rattle.std.proofs.lemmas.List.Elements.{filter-append}
 use Rattle.std.proofs.lemmas.List.FromFn.{length-map-range_with_len}
 use Rattle.bddl_model.specs.declared.game.Side.{Side}
-use Rattle.bddl_model.specs.declared.game.Atom.{Atom}
+use Rattle.bddl_model.specs.declared.game.Test.{Test}
 use Rattle.bddl_model.specs.declared.game.Move.{Move}
 use Rattle.bddl_model.specs.declared.game.Rect.{Rect}
 use Rattle.bddl_model.specs.Game.{Game, Action}
 use Rattle.bddl_model.specs.Board.{SizedBoard}
 use Rattle.bddl_model.specs.Moves.{legal}
-use Rattle.grid_game.specs.Listed.{move_at, row_moves, action_moves, marks_stand}
+use Rattle.grid_game.specs.Listed.{move_at, row_moves, action_moves, tests_hold}
 use Rattle.grid_game.proofs.MoveRanges.{few_pass}
 use Rattle.grid_game.proofs.MoveLegal.{ActsIn, legal_row}
 
@@ -29,15 +29,15 @@ row_skips p action y x high done le fails = rw (row_begins action y x high le, f
 
 -- ---- one row more
 
-pub row_joins : (g : Game) (b : SizedBoard) (side : Side) (action y : ℕ) (a : Action) (r : Rect) (before : List Atom) (done grown : List Move) → b.width ≡ g.width → ActsIn g side action a r → r.y_low ≤ y → y ≤ r.y_high
-    → before ≡ a.before → grown ≡ done ++ filter (marks_stand b before) (row_moves action y r.x_low (r.x_high + 1 - r.x_low))
+pub row_joins : (g : Game) (b : SizedBoard) (side : Side) (action y : ℕ) (a : Action) (r : Rect) (before : List Test) (done grown : List Move) → b.width ≡ g.width → ActsIn g side action a r → r.y_low ≤ y → y ≤ r.y_high
+    → before ≡ a.before → grown ≡ done ++ filter (tests_hold b before) (row_moves action y r.x_low (r.x_high + 1 - r.x_low))
     → grown ++ filter (legal g b.marks side) (action_moves g action (y + 1) (r.y_high + 1 - (y + 1))) ≡ done ++ filter (legal g b.marks side) (action_moves g action y (r.y_high + 1 - y))
 row_joins g b side action y a r before done grown size acts top bottom same listed =
     let p = legal g b.marks side in
     let row = row_moves action y 1 g.width in
     let rest = action_moves g action (y + 1) (r.y_high + 1 - (y + 1)) in
     let more : suc (r.y_high + 1 - (y + 1)) ≡ r.y_high + 1 - y = omega arith in
-    let adds = listed ∙ ap (λ atoms. done ++ filter (marks_stand b atoms) (row_moves action y r.x_low (r.x_high + 1 - r.x_low))) same ∙ ap (λ (l : List Move). done ++ l) (sym (legal_row g b side action y a r size acts top bottom)) in
+    let adds = listed ∙ ap (λ atoms. done ++ filter (tests_hold b atoms) (row_moves action y r.x_low (r.x_high + 1 - r.x_low))) same ∙ ap (λ (l : List Move). done ++ l) (sym (legal_row g b side action y a r size acts top bottom)) in
     ap (λ (l : List Move). l ++ filter p rest) adds
     ∙ append_assoc done (filter p row) (filter p rest)
     ∙ ap (λ (l : List Move). done ++ l) (sym (filter-append p row rest) ∙ ap (λ n. filter p (action_moves g action y n)) more)

@@ -1,11 +1,11 @@
 -- A list of moves and how many it can hold, and moves in the order in which they are listed.
 use Rattle.std.specs.Prelude.{ℕ, Bool, List, map, flat_map}
 use Rattle.std.specs.List.{list_all, range_with_len}
-use Rattle.bddl_model.specs.declared.game.Atom.{Atom}
+use Rattle.bddl_model.specs.declared.game.Test.{Test}
 use Rattle.bddl_model.specs.declared.game.Move.{Move}
 use Rattle.bddl_model.specs.Game.{Game}
 use Rattle.bddl_model.specs.Board.{SizedBoard}
-use Rattle.bddl_model.specs.Fitting.{has_mark}
+use Rattle.bddl_model.specs.Fitting.{test_holds}
 
 pub record Listed : Type 0 where
   pub moves : List Move
@@ -27,6 +27,6 @@ action_moves g action y n = flat_map (λ k. row_moves action k 1 g.width) (range
 abbrev pub actions_moves : Game → ℕ → ℕ → List Move
 actions_moves g action n = flat_map (λ k. action_moves g k 1 g.height) (range_with_len action n)
 
--- the atoms' marks stand on the board
-abbrev pub marks_stand : SizedBoard → List Atom → Move → Bool
-marks_stand board atoms m = list_all (has_mark board.width board.marks m.x m.y) atoms
+-- the tests hold on the board
+abbrev pub tests_hold : SizedBoard → List Test → Move → Bool
+tests_hold board tests m = list_all (test_holds board.width board.marks m.x m.y) tests

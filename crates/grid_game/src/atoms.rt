@@ -1,11 +1,11 @@
-// Atoms on a board.
+// Atoms and tests on a board.
 ghost use Rattle.std.specs.Prelude.{◌≡◌, ◌≤◌, true};
 ghost use Rattle.std.specs.List.{list_all};
-ghost use Rattle.bddl_model.specs.Game.{greatest_side};
-ghost use Rattle.bddl_model.specs.Fitting.{led, on_board, has_mark};
+ghost use Rattle.bddl_model.specs.Game.{greatest_side, test_atoms};
+ghost use Rattle.bddl_model.specs.Fitting.{led, on_board, passes, test_holds};
 
 use crate::board::Board;
-use bddl_model::{Atom, Term};
+use bddl_model::{Mark, Term, Test};
 
 /// The number that a term leads to from the anchor's; 0 stands for all that lie before the board.
 pub fn led(term: Term, n: u32) -> u32
@@ -19,23 +19,31 @@ pub fn led(term: Term, n: u32) -> u32
     }
 }
 
-/// Whether the atom's cell, which is on the board, has its mark.
-pub fn has_mark(board: &Board, x: u32, y: u32, atom: &Atom) -> bool
-    requires anchor { (x ≤ greatest_side) × (y ≤ greatest_side) }
-    requires cell { on_board board.now.width board.now.height x y atom.now ≡ true }
-    ensures { result ≡ has_mark board.now.width board.now.marks x y atom.now }
+// Whether a mark is the one that the test asks for, or, where it is negated, another.
+fn passes(mark: Mark, test: &Test) -> bool
+    ensures { result ≡ passes mark test.now }
 {
-    board.at(led(atom.x, x), led(atom.y, y)) == atom.mark
+    (mark == test.atom.mark) != test.negated
 }
 
-/// Whether each atom's cell, all of which are on the board, has its mark.
-pub fn all_have_marks(board: &Board, x: u32, y: u32, atoms: &[Atom]) -> bool
+/// Whether the test holds at its cell, which is on the board.
+pub fn test_holds(board: &Board, x: u32, y: u32, test: &Test) -> bool
     requires anchor { (x ≤ greatest_side) × (y ≤ greatest_side) }
-    requires cells { list_all (on_board board.now.width board.now.height x y) atoms.now ≡ true }
-    ensures { result ≡ list_all (has_mark board.now.width board.now.marks x y) atoms.now }
+    requires cell { on_board board.now.width board.now.height x y test.now.atom ≡ true }
+    ensures { result ≡ test_holds board.now.width board.now.marks x y test.now }
 {
-    for atom in atoms {
-        if !has_mark(board, x, y, atom) {
+    let atom = test.atom;
+    passes(board.at(led(atom.x, x), led(atom.y, y)), test)
+}
+
+/// Whether each test holds at its cell, all of which are on the board.
+pub fn all_hold(board: &Board, x: u32, y: u32, tests: &[Test]) -> bool
+    requires anchor { (x ≤ greatest_side) × (y ≤ greatest_side) }
+    requires cells { list_all (on_board board.now.width board.now.height x y) (test_atoms tests.now) ≡ true }
+    ensures { result ≡ list_all (test_holds board.now.width board.now.marks x y) tests.now }
+{
+    for test in tests {
+        if !test_holds(board, x, y, test) {
             return false;
         }
     }

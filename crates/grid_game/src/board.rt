@@ -9,7 +9,7 @@ use bddl_model::{Mark, NoMemory};
 use std::alloc::Global;
 use std::marker::Model;
 
-/// A board of at most 16 by 16. Contracts see its two sides and its marks, row after row.
+/// A board of at most 64 by 64. Contracts see its two sides and its marks, row after row.
 #[derive(Debug, Drop)]
 pub struct Board {
     width: u32,

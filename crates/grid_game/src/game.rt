@@ -7,13 +7,13 @@ ghost use Rattle.grid_game.specs.Stored.{action_of, actions_of, lines_of, KeepsR
 
 use crate::items::{Items, StoredAction, StoredLine};
 use crate::rect::rect_of;
-use bddl_model::{Atom, NoMemory, Rect, Side};
+use bddl_model::{Atom, NoMemory, Rect, Side, Test};
 use std::alloc::Global;
 use std::marker::Model;
 
 /// A game on a grid. Contracts see it as its two sizes and, for each side, its actions and its goal
-/// lines. A game keeps to the limits: sides of 1 to 16, at most 8 actions a side with names of 1 to
-/// 32 bytes, 8 preconditions and 4 effects, at most 256 goal lines a side of 16 atoms, and an anchor
+/// lines. A game keeps to the limits: sides of 1 to 64, at most 8 actions a side with names of 1 to
+/// 32 bytes, 8 preconditions and 4 effects, at most 256 goal lines a side of 16 tests, and an anchor
 /// that fits for each of them.
 #[derive(Debug, Drop)]
 pub struct Game {
@@ -60,12 +60,12 @@ impl Game {
         let _ = &self.width;
     }
 
-    // The anchors that fit the atoms of both lists, of which there are some.
-    fn anchors(&self, first: &[Atom], second: &[Atom]) -> Rect
-        requires { FitsSomewhere self.now.width self.now.height (first.now ++ second.now) }
-        ensures { IsRectOf self.now.width self.now.height (first.now ++ second.now) result }
+    // The anchors that fit the tests and the effects, of which there are some.
+    fn anchors(&self, tests: &[Test], effects: &[Atom]) -> Rect
+        requires { FitsSomewhere self.now.width self.now.height (spec.test_atoms tests.now ++ effects.now) }
+        ensures { IsRectOf self.now.width self.now.height (spec.test_atoms tests.now ++ effects.now) result }
     {
-        let Some(rect) = rect_of(self.width, self.height, first, second) else {
+        let Some(rect) = rect_of(self.width, self.height, tests, effects) else {
             unreachable!()
         };
         rect
@@ -76,7 +76,7 @@ impl Game {
         &mut self,
         side: Side,
         name: &[u8],
-        before: &[Atom],
+        before: &[Test],
         effects: &[Atom],
     ) -> Result<(), NoMemory>
         requires few { length (spec.actions self.old side) < 8 }
@@ -93,14 +93,14 @@ impl Game {
     }
 
     /// Adds a goal line behind those of the side, or leaves the game as it was.
-    pub fn add_line(&mut self, side: Side, atoms: &[Atom]) -> Result<(), NoMemory>
+    pub fn add_line(&mut self, side: Side, tests: &[Test]) -> Result<(), NoMemory>
         requires few { length (spec.lines self.old side) < 256 }
-        requires line { IsLine self.old.width self.old.height atoms.now }
-        ensures ok { OnOk result (self.new ≡ spec.with_line self.old side atoms.now) }
+        requires line { IsLine self.old.width self.old.height tests.now }
+        ensures ok { OnOk result (self.new ≡ spec.with_line self.old side tests.now) }
         ensures err { OnErr result (self.new ≡ self.old) }
     {
-        let rect = self.anchors(atoms, &[]);
-        let line = StoredLine::copied(self.alloc, atoms, rect)?;
+        let rect = self.anchors(tests, &[]);
+        let line = StoredLine::copied(self.alloc, tests, rect)?;
         match side {
             Side::Black => self.black.push_line(line),
             Side::White => self.white.push_line(line),
@@ -146,8 +146,8 @@ impl Game {
     // A goal line with its anchors.
     fn stored_line(&self, side: Side, number: u32) -> &StoredLine
         requires { number < length (spec.lines self.now side) }
-        ensures line { result.now.atoms.items ≡ spec.line_at self.now side number }
-        ensures rect { IsRectOf self.now.width self.now.height (spec.line_atoms result.now.atoms.items) result.now.rect }
+        ensures line { result.now.tests.items ≡ spec.line_at self.now side number }
+        ensures rect { IsRectOf self.now.width self.now.height (spec.line_atoms result.now.tests.items) result.now.rect }
     {
         &self.items(side).lines[number as usize]
     }
@@ -168,7 +168,7 @@ impl Game {
     }
 
     /// What must hold before an action.
-    pub fn before(&self, side: Side, action: u32) -> &[Atom]
+    pub fn before(&self, side: Side, action: u32) -> &[Test]
         requires { action < length (spec.actions self.now side) }
         ensures { result.now ≡ (spec.action_at self.now side action).before }
     {
@@ -198,12 +198,12 @@ impl Game {
         self.items(side).lines.len() as u32
     }
 
-    /// The atoms of a goal line.
-    pub fn line(&self, side: Side, number: u32) -> &[Atom]
+    /// The tests of a goal line.
+    pub fn line(&self, side: Side, number: u32) -> &[Test]
         requires { number < length (spec.lines self.now side) }
         ensures { result.now ≡ spec.line_at self.now side number }
     {
-        &self.stored_line(side, number).atoms
+        &self.stored_line(side, number).tests
     }
 
     /// The anchors that fit a goal line.

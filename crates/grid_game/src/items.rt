@@ -2,14 +2,14 @@
 ghost use Rattle.std.specs.Prelude.{◌≡◌, [], ◌∷◌, ◌++◌, if◌then◌else◌, IfOk, is_ok};
 ghost use Rattle.grid_game.specs.Stored.{action_of};
 
-use bddl_model::{Atom, NoMemory, Rect};
+use bddl_model::{Atom, NoMemory, Rect, Test};
 use std::alloc::Global;
 
 /// An action, with the anchors that fit.
 #[derive(Debug, Drop)]
 pub struct StoredAction {
     pub name: Vec<u8>,
-    pub before: Vec<Atom>,
+    pub before: Vec<Test>,
     pub effects: Vec<Atom>,
     pub rect: Rect,
 }
@@ -19,7 +19,7 @@ impl StoredAction {
     pub fn copied(
         alloc: Global,
         name: &[u8],
-        before: &[Atom],
+        before: &[Test],
         effects: &[Atom],
         rect: Rect,
     ) -> Result<StoredAction, NoMemory>
@@ -38,18 +38,18 @@ impl StoredAction {
 /// A goal line, with the anchors that fit.
 #[derive(Debug, Drop)]
 pub struct StoredLine {
-    pub atoms: Vec<Atom>,
+    pub tests: Vec<Test>,
     pub rect: Rect,
 }
 
 impl StoredLine {
-    /// A copy of the atoms.
-    pub fn copied(alloc: Global, atoms: &[Atom], rect: Rect) -> Result<StoredLine, NoMemory>
-        ensures line { IfOk result (λ line. line.atoms.items ≡ atoms.now) }
+    /// A copy of the tests.
+    pub fn copied(alloc: Global, tests: &[Test], rect: Rect) -> Result<StoredLine, NoMemory>
+        ensures line { IfOk result (λ line. line.tests.items ≡ tests.now) }
         ensures rect { IfOk result (λ line. line.rect ≡ rect) }
     {
         Ok(StoredLine {
-            atoms: atoms.to_vec(alloc)?,
+            tests: tests.to_vec(alloc)?,
             rect,
         })
     }

@@ -5,12 +5,12 @@ ghost use Rattle.bddl_model.specs.Game as spec;
 ghost use Rattle.bddl_model.specs.Limits.{IsBoardOf};
 ghost use Rattle.bddl_model.specs.Fitting.{on_board};
 ghost use Rattle.bddl_model.specs.Moves.{legal, moves};
-ghost use Rattle.grid_game.specs.Listed.{row_moves, action_moves, marks_stand};
+ghost use Rattle.grid_game.specs.Listed.{row_moves, action_moves, tests_hold};
 
-use crate::atoms::all_have_marks;
+use crate::atoms::all_hold;
 use crate::board::Board;
 use crate::game::Game;
-use bddl_model::{Atom, Move, NoMemory, Rect, Side};
+use bddl_model::{Move, NoMemory, Rect, Side, Test};
 use std::alloc::Global;
 use std::marker::Model;
 
@@ -65,15 +65,15 @@ impl MoveList {
 }
 
 // Adds the moves of an action in row y and the columns of the rectangle where the preconditions hold.
-fn add_row(board: &Board, rect: Rect, before: &[Atom], action: u32, y: u32, list: &mut MoveList)
+fn add_row(board: &Board, rect: Rect, before: &[Test], action: u32, y: u32, list: &mut MoveList)
     requires small { (rect.x_high ≤ spec.greatest_side) × (y ≤ spec.greatest_side) }
-    requires cells { (x : ℕ) → rect.x_low ≤ x → x ≤ rect.x_high → list_all (on_board board.now.width board.now.height x y) before.now ≡ true }
+    requires cells { (x : ℕ) → rect.x_low ≤ x → x ≤ rect.x_high → list_all (on_board board.now.width board.now.height x y) (spec.test_atoms before.now) ≡ true }
     requires room { length list.old.moves + (rect.x_high + 1 - rect.x_low) ≤ list.old.room }
-    ensures moves { list.new.moves ≡ list.old.moves ++ filter (marks_stand board.now before.now) (row_moves action y rect.x_low (rect.x_high + 1 - rect.x_low)) }
+    ensures moves { list.new.moves ≡ list.old.moves ++ filter (tests_hold board.now before.now) (row_moves action y rect.x_low (rect.x_high + 1 - rect.x_low)) }
     ensures room { list.new.room ≡ list.old.room }
 {
     for x in rect.x_low..rect.x_high + 1 {
-        if all_have_marks(board, x, y, before) {
+        if all_hold(board, x, y, before) {
             list.moves.push_reserved(Move { action, x, y });
         }
     }

@@ -1,9 +1,11 @@
 // The anchors that fit.
 ghost use Rattle.std.specs.Prelude.{◌≡◌, ◌≤◌, ◌++◌, ℕ, false, None, max, min, IfSome};
 ghost use Rattle.bddl_model.specs.Fitting.{fits};
+ghost use Rattle.bddl_model.specs.Game.{test_atoms};
 ghost use Rattle.bddl_model.specs.Rectangle as spec;
+ghost use Rattle.grid_game.specs.Narrowed.{IsInside, IsNarrowed};
 
-use bddl_model::{Atom, Rect, Term};
+use bddl_model::{Atom, Rect, Term, Test};
 
 fn least_for(term: Term) -> u32
     ensures { result ≡ spec.least_for term }
@@ -25,24 +27,43 @@ fn greatest_for(side: u32, term: Term) -> u32
     }
 }
 
-// The anchors of a rectangle, which may be empty, from which the atoms' terms lead to cells of the
-// board too.
-fn narrowed(rect: Rect, width: u32, height: u32, atoms: &[Atom]) -> Rect
-    requires low { (1 ≤ rect.x_low) × (1 ≤ rect.y_low) }
-    requires high { (rect.x_high ≤ width) × (rect.y_high ≤ height) }
-    ensures x_low { result.x_low ≡ max rect.x_low (spec.least_anchor (spec.columns_of atoms.now)) }
-    ensures x_high { result.x_high ≡ min rect.x_high (spec.greatest_anchor width (spec.columns_of atoms.now)) }
-    ensures y_low { result.y_low ≡ max rect.y_low (spec.least_anchor (spec.rows_of atoms.now)) }
-    ensures y_high { result.y_high ≡ min rect.y_high (spec.greatest_anchor height (spec.rows_of atoms.now)) }
+// The anchors of a rectangle from which the atom's terms lead to a cell of the board too.
+fn narrowed(rect: Rect, width: u32, height: u32, atom: Atom) -> Rect
+    ensures { result ≡ record {
+      x_low = max rect.x_low (spec.least_for atom.x);
+      x_high = min rect.x_high (spec.greatest_for width atom.x);
+      y_low = max rect.y_low (spec.least_for atom.y);
+      y_high = min rect.y_high (spec.greatest_for height atom.y);
+    } }
+{
+    Rect {
+        x_low: rect.x_low.max(least_for(atom.x)),
+        x_high: rect.x_high.min(greatest_for(width, atom.x)),
+        y_low: rect.y_low.max(least_for(atom.y)),
+        y_high: rect.y_high.min(greatest_for(height, atom.y)),
+    }
+}
+
+// Those from which the atoms of all tests do. The rectangle may be empty.
+fn narrowed_by_tests(rect: Rect, width: u32, height: u32, tests: &[Test]) -> Rect
+    requires { IsInside width height rect }
+    ensures { IsNarrowed width height rect (test_atoms tests.now) result }
 {
     let mut left = rect;
-    for atom in atoms {
-        left = Rect {
-            x_low: left.x_low.max(least_for(atom.x)),
-            x_high: left.x_high.min(greatest_for(width, atom.x)),
-            y_low: left.y_low.max(least_for(atom.y)),
-            y_high: left.y_high.min(greatest_for(height, atom.y)),
-        };
+    for test in tests {
+        left = narrowed(left, width, height, test.atom);
+    }
+    left
+}
+
+// Those from which all effects do. The rectangle may be empty.
+fn narrowed_by_effects(rect: Rect, width: u32, height: u32, effects: &[Atom]) -> Rect
+    requires { IsInside width height rect }
+    ensures { IsNarrowed width height rect effects.now result }
+{
+    let mut left = rect;
+    for atom in effects {
+        left = narrowed(left, width, height, *atom);
     }
     left
 }
@@ -56,12 +77,12 @@ fn unless_empty(rect: Rect) -> Option<Rect>
     None
 }
 
-/// The anchors at which the atoms of both lists lie on the board, the anchor itself too, or none.
-/// On a board of the two sides.
-pub fn rect_of(width: u32, height: u32, first: &[Atom], second: &[Atom]) -> Option<Rect>
-    ensures value { result ≡ spec.rect_of width height (first.now ++ second.now) }
-    ensures some { IfSome result (spec.IsRectOf width height (first.now ++ second.now)) }
-    ensures none { result ≡ None → (x y : ℕ) → fits width height (first.now ++ second.now) x y ≡ false }
+/// The anchors at which the cells of the tests and of the effects lie on the board, the anchor itself
+/// too, or none. On a board of the two sides.
+pub fn rect_of(width: u32, height: u32, tests: &[Test], effects: &[Atom]) -> Option<Rect>
+    ensures value { result ≡ spec.rect_of width height (test_atoms tests.now ++ effects.now) }
+    ensures some { IfSome result (spec.IsRectOf width height (test_atoms tests.now ++ effects.now)) }
+    ensures none { result ≡ None → (x y : ℕ) → fits width height (test_atoms tests.now ++ effects.now) x y ≡ false }
 {
     let board = Rect {
         x_low: 1,
@@ -69,8 +90,8 @@ pub fn rect_of(width: u32, height: u32, first: &[Atom], second: &[Atom]) -> Opti
         y_low: 1,
         y_high: height,
     };
-    let of_first = narrowed(board, width, height, first);
-    unless_empty(narrowed(of_first, width, height, second))
+    let of_tests = narrowed_by_tests(board, width, height, tests);
+    unless_empty(narrowed_by_effects(of_tests, width, height, effects))
 }
 
 #[cfg(test)]

@@ -6,7 +6,7 @@ ghost use Rattle.bddl_model.specs.Limits.{IsBoardOf};
 ghost use Rattle.bddl_model.specs.Moves.{legal, written, after};
 ghost use Rattle.bddl_model.specs.Rectangle.{in_rect};
 
-use crate::atoms::{all_have_marks, led};
+use crate::atoms::{all_hold, led};
 use crate::board::Board;
 use crate::game::Game;
 use bddl_model::{Atom, Move, Rect, Side};
@@ -18,8 +18,8 @@ pub fn in_rect(rect: Rect, x: u32, y: u32) -> bool
     rect.x_low <= x && x <= rect.x_high && rect.y_low <= y && y <= rect.y_high
 }
 
-/// Whether the side may make the move: it has the action, the anchor fits, and each precondition's
-/// cell has its mark.
+/// Whether the side may make the move: it has the action, the anchor fits, and each precondition
+/// holds.
 pub fn legal(game: &Game, board: &Board, side: Side, mv: Move) -> bool
     requires { IsBoardOf game.now board.now }
     ensures { result ≡ legal game.now board.now.marks side mv }
@@ -31,7 +31,7 @@ pub fn legal(game: &Game, board: &Board, side: Side, mv: Move) -> bool
     if !in_rect(game.action_rect(side, mv.action), mv.x, mv.y) {
         return false;
     }
-    all_have_marks(board, mv.x, mv.y, game.before(side, mv.action))
+    all_hold(board, mv.x, mv.y, game.before(side, mv.action))
 }
 
 fn write_effects(board: &mut Board, x: u32, y: u32, effects: &[Atom])

@@ -1,5 +1,5 @@
 -- What a problem of a start board has where the checks find no fault.
-use Rattle.std.proofs.Common.{◌≡◌, ◌≤◌, ℕ, suc, Bool, true, false, not, nat_lt, nat_le, ◌+◌, List, [], ◌∷◌, ◌++◌, length, flat_map, Option, None, Some, refl, arith}
+use Rattle.std.proofs.Common.{◌≡◌, ◌≤◌, ℕ, suc, Bool, true, false, not, nat_lt, nat_le, ◌+◌, List, [], ◌∷◌, ◌++◌, length, map, flat_map, Option, None, Some, refl, arith}
 use Rattle.std.specs.List.{list_all, list_any}
 use Rattle.std.proofs.lemmas.Bool.{and_parts, leb-true}
 use Rattle.std.proofs.lemmas.Bool.Decides.{nat_tests}
@@ -13,14 +13,14 @@ use Rattle.bddl_model.specs.declared.game.Side.{Side}
 use Rattle.bddl_model.specs.declared.game.Side.TheVariants.{Black, White}
 use Rattle.bddl_model.specs.declared.texts.TermText.{TermText}
 use Rattle.bddl_model.specs.declared.texts.TermText.TheVariants.{Shift, Number, Least, Greatest}
-use Rattle.bddl_model.specs.declared.texts.AtomText.{AtomText}
+use Rattle.bddl_model.specs.declared.texts.TestText.{TestText}
 use Rattle.bddl_model.specs.declared.texts.InitAtom.{InitAtom}
 use Rattle.bddl_model.specs.declared.texts.ProblemText.{ProblemText}
-use Rattle.bddl_model.specs.Check.{first_of, fault_if, size_fault, depth_fault, term_fault, atoms_fault, length_fault, never_fault, same_cell, cell_fault, each_cell, cells_fault, line_fault, each_line, lines_fault, setup_fault}
+use Rattle.bddl_model.specs.Check.{first_of, fault_if, size_fault, depth_fault, term_fault, tests_fault, length_fault, never_fault, same_cell, cell_fault, each_cell, cells_fault, line_fault, each_line, lines_fault, setup_fault}
 use Rattle.bddl_model.specs.Fitting.{on_side, cell_on_board}
 use Rattle.bddl_model.specs.Game.{greatest_side, line_atoms}
 use Rattle.bddl_model.specs.Limits.{IsSide}
-use Rattle.bddl_model.specs.Setup.{line_of}
+use Rattle.bddl_model.specs.Setup.{tests_of}
 use Rattle.bddl_model.specs.Start.{no_actions, is_number, in_numbers, IsStartProblem}
 use Rattle.lifted_encode.specs.Fixed.{number_on_side, names_cell, line_fits, IsFixed}
 
@@ -68,29 +68,29 @@ term_passed i side (Shift k) h number = absurd cc
 term_passed i side Least h number = absurd cc
 term_passed i side Greatest h number = absurd cc
 
-atoms_passed : (i : Item) (width height : ℕ) (atoms : List AtomText) → atoms_fault i width height atoms ≡ None → list_all in_numbers atoms ≡ true → list_all (names_cell width height) atoms ≡ true
-atoms_passed i width height [] h numbers = refl
-atoms_passed i width height (a ∷ atoms) h numbers =
-    let more = flat_map (λ b. term_fault i width b.x ∷ term_fault i height b.y ∷ []) atoms in
-    let column = first_passed (term_fault i width a.x) (term_fault i height a.y ∷ more) h in
-    let row = first_passed (term_fault i height a.y) more column.1 in
-    let both = and_parts (in_numbers a) (list_all in_numbers atoms) numbers in
-    let number = and_parts (is_number a.x) (is_number a.y) both.0 in
-    rw (term_passed i width a.x column.0 number.0, term_passed i height a.y row.0 number.1, atoms_passed i width height atoms row.1 both.1) refl
+tests_passed : (i : Item) (width height : ℕ) (tests : List TestText) → tests_fault i width height tests ≡ None → list_all in_numbers tests ≡ true → list_all (names_cell width height) tests ≡ true
+tests_passed i width height [] h numbers = refl
+tests_passed i width height (t ∷ tests) h numbers =
+    let more = flat_map (λ b. term_fault i width b.x ∷ term_fault i height b.y ∷ []) (map (λ other. other.atom) tests) in
+    let column = first_passed (term_fault i width t.atom.x) (term_fault i height t.atom.y ∷ more) h in
+    let row = first_passed (term_fault i height t.atom.y) more column.1 in
+    let both = and_parts (in_numbers t) (list_all in_numbers tests) numbers in
+    let number = and_parts (is_number t.atom.x) (is_number t.atom.y) (and_parts (not t.negated) _ both.0).1 in
+    rw (term_passed i width t.atom.x column.0 number.0, term_passed i height t.atom.y row.0 number.1, tests_passed i width height tests row.1 both.1) refl
 
 short_fits : (n : ℕ) → n ≤ 16 → nat_le n 16 ≡ true
 short_fits n h = grind (arith, nat_tests)
 
-line_passed : (width height : ℕ) (side : Side) (n : ℕ) (atoms : List AtomText) → line_fault width height side n atoms ≡ None → list_all in_numbers atoms ≡ true → line_fits width height atoms ≡ true
-line_passed width height side n atoms h numbers =
+line_passed : (width height : ℕ) (side : Side) (n : ℕ) (tests : List TestText) → line_fault width height side n tests ≡ None → list_all in_numbers tests ≡ true → line_fits width height tests ≡ true
+line_passed width height side n tests h numbers =
     let i = item.Line side n in
-    let never = never_fault i width height (line_atoms (line_of width height atoms)) ∷ [] in
-    let short = first_passed (length_fault i part.Line 16 atoms) (atoms_fault i width height atoms ∷ never) h in
-    let fixed = first_passed (atoms_fault i width height atoms) never short.1 in
-    let few = at_most 16 (length atoms) (fault.TooManyAtoms i part.Line (length atoms)) short.0 in
-    rw (short_fits (length atoms) few, atoms_passed i width height atoms fixed.0 numbers) refl
+    let never = never_fault i width height (line_atoms (tests_of width height tests)) ∷ [] in
+    let short = first_passed (length_fault i part.Line 16 (length tests)) (tests_fault i width height tests ∷ never) h in
+    let fixed = first_passed (tests_fault i width height tests) never short.1 in
+    let few = at_most 16 (length tests) (fault.TooManyAtoms i part.Line (length tests)) short.0 in
+    rw (short_fits (length tests) few, tests_passed i width height tests fixed.0 numbers) refl
 
-lines_passed : (width height : ℕ) (side : Side) (n : ℕ) (lines : List (List AtomText)) → first_of (each_line width height side n lines) ≡ None → list_all (list_all in_numbers) lines ≡ true → list_all (line_fits width height) lines ≡ true
+lines_passed : (width height : ℕ) (side : Side) (n : ℕ) (lines : List (List TestText)) → first_of (each_line width height side n lines) ≡ None → list_all (list_all in_numbers) lines ≡ true → list_all (line_fits width height) lines ≡ true
 lines_passed width height side n [] h numbers = refl
 lines_passed width height side n (l ∷ more) h numbers =
     let here = first_passed (line_fault width height side n l) (each_line width height side (suc n) more) h in

@@ -4,7 +4,7 @@ use Rattle.std.proofs.Math.Dec.{eqb-suc-zero, eqb-zero-suc, eqb-suc-suc}
 use Rattle.std.specs.Prelude.{◌==◌}
 use Rattle.std.specs.List.{list_all}
 use Rattle.std.proofs.lemmas.List.{take_more, map-append, length-map, length-take-le}
-use Rattle.bddl_model.specs.declared.game.Atom.{Atom}
+use Rattle.bddl_model.specs.declared.game.Test.{Test}
 use Rattle.bddl_model.specs.Board.{Board}
 use Rattle.lifted_encode.specs.Serving.{agrees, serves}
 
@@ -13,7 +13,7 @@ or-false true = refl
 or-false false = refl
 
 -- a line at the end has their number
-serves-last : (width : ℕ) (board : Board) (lines : List (List Atom)) (l : List Atom) (i x y : ℕ) → serves width board (lines ++ l ∷ []) i x y ≡ (serves width board lines i x y || ((i == length lines) && list_all (agrees width board x y) l))
+serves-last : (width : ℕ) (board : Board) (lines : List (List Test)) (l : List Test) (i x y : ℕ) → serves width board (lines ++ l ∷ []) i x y ≡ (serves width board lines i x y || ((i == length lines) && list_all (agrees width board x y) l))
 serves-last width board [] l zero x y = refl
 serves-last width board [] l (suc i) x y = rw (eqb-suc-zero i) refl
 serves-last width board (m ∷ lines) l zero x y = rw (eqb-zero-suc (length lines)) (sym (or-false (list_all (agrees width board x y) m)))
@@ -24,7 +24,7 @@ neither true t = refl
 neither false t = refl
 
 -- no line so far, nor the next one
-pub no_line_more : {X : Type 0} (width : ℕ) (board : Board) (f : X → List Atom) (lines : List X) (k : ℕ) (d : X) (line : List Atom) (i x y : ℕ) (before after : Bool) → k < length lines → f (get_or lines k d) ≡ line
+pub no_line_more : {X : Type 0} (width : ℕ) (board : Board) (f : X → List Test) (lines : List X) (k : ℕ) (d : X) (line : List Test) (i x y : ℕ) (before after : Bool) → k < length lines → f (get_or lines k d) ≡ line
     → before ≡ not (serves width board (map f (take k lines)) i x y) → after ≡ (before && not ((i == k) && list_all (agrees width board x y) line))
     → after ≡ not (serves width board (map f (take (k + 1) lines)) i x y)
 no_line_more width board f lines k d line i x y before after lt e b g =

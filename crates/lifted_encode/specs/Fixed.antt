@@ -3,7 +3,7 @@ use Rattle.std.specs.Prelude.{ℕ, ◌≡◌, ◌≤◌, Bool, true, false, ◌&
 use Rattle.std.specs.List.{list_all}
 use Rattle.bddl_model.specs.declared.texts.TermText.{TermText}
 use Rattle.bddl_model.specs.declared.texts.TermText.TheVariants.{Number}
-use Rattle.bddl_model.specs.declared.texts.AtomText.{AtomText}
+use Rattle.bddl_model.specs.declared.texts.TestText.{TestText}
 use Rattle.bddl_model.specs.declared.texts.ProblemText.{ProblemText}
 use Rattle.bddl_model.specs.Fitting.{on_side, cell_on_board}
 use Rattle.bddl_model.specs.Limits.{IsSide}
@@ -13,11 +13,11 @@ abbrev pub number_on_side : ℕ → TermText → Bool
 number_on_side side (Number n) = on_side side n
 number_on_side side _ = false
 
-abbrev pub names_cell : ℕ → ℕ → AtomText → Bool
-names_cell width height a = number_on_side width a.x && number_on_side height a.y
+abbrev pub names_cell : ℕ → ℕ → TestText → Bool
+names_cell width height t = number_on_side width t.atom.x && number_on_side height t.atom.y
 
--- of at most 16 atoms
-abbrev pub line_fits : ℕ → ℕ → List AtomText → Bool
+-- of at most 16 tests
+abbrev pub line_fits : ℕ → ℕ → List TestText → Bool
 line_fits width height line = nat_le (length line) 16 && list_all (names_cell width height) line
 
 -- a start board, and lines of Black that fit it

@@ -2,24 +2,24 @@
 use Rattle.std.specs.Prelude.{ℕ, zero, suc, ◌≡◌, ◌+◌, ◌*◌, ◌≤◌, Bool, false, not, ◌&&◌, ◌||◌, ◌==◌, List, [], ◌∷◌, length}
 use Rattle.std.specs.List.{list_all}
 use Rattle.bddl_model.specs.declared.formula.Span.{Span}
-use Rattle.bddl_model.specs.declared.game.Atom.{Atom}
+use Rattle.bddl_model.specs.declared.game.Test.{Test}
 use Rattle.bddl_model.specs.Truth.{Assignment}
 use Rattle.bddl_model.specs.Bits.{number_at}
-use Rattle.bddl_model.specs.Board.{Board, mark_at, same_mark}
-use Rattle.bddl_model.specs.Fitting.{led}
+use Rattle.bddl_model.specs.Board.{Board, mark_at}
+use Rattle.bddl_model.specs.Fitting.{led, passes}
 use Rattle.bddl_model.specs.Limits.{IsSide}
 use Rattle.lifted_encode.specs.declared.board.Board as declared
 
--- the atom's cell is the place, whose column and row are counted from 0
-abbrev pub at_place : ℕ → ℕ → Atom → Bool
-at_place x y a = (led a.x 1 == x + 1) && (led a.y 1 == y + 1)
+-- the test's cell is the place, whose column and row are counted from 0
+abbrev pub at_place : ℕ → ℕ → Test → Bool
+at_place x y t = (led t.atom.x 1 == x + 1) && (led t.atom.y 1 == y + 1)
 
--- the atom has no say at the place, or its mark is there
-abbrev pub agrees : ℕ → Board → ℕ → ℕ → Atom → Bool
-agrees width board x y a = not (at_place x y a) || same_mark (mark_at width board (x + 1) (y + 1)) a.mark
+-- the test has no say at the place, or the mark there passes
+abbrev pub agrees : ℕ → Board → ℕ → ℕ → Test → Bool
+agrees width board x y t = not (at_place x y t) || passes (mark_at width board (x + 1) (y + 1)) t
 
--- there is a line of this number, and its atoms agree
-abbrev pub serves : ℕ → Board → List (List Atom) → ℕ → ℕ → ℕ → Bool
+-- there is a line of this number, and its tests agree
+abbrev pub serves : ℕ → Board → List (List Test) → ℕ → ℕ → ℕ → Bool
 serves width board [] i x y = false
 serves width board (l ∷ lines) zero x y = list_all (agrees width board x y) l
 serves width board (l ∷ lines) (suc i) x y = serves width board lines i x y

@@ -24,7 +24,7 @@ impl StartInputs {
         ensures line { result.line ≡ span 2 (spec.bits lines) }
         ensures column { result.column ≡ span (2 + spec.bits lines + (spec.bits width + spec.bits height)) (spec.bits width) }
         ensures row { result.row ≡ span (2 + spec.bits lines + (spec.bits width + spec.bits height) + spec.bits width) (spec.bits height) }
-        ensures small { (spec.bits lines ≤ 8) × (spec.bits width ≤ 4) × (spec.bits height ≤ 4) }
+        ensures small { (spec.bits lines ≤ 8) × (spec.bits width ≤ 6) × (spec.bits height ≤ 6) }
     {
         let line = Span {
             from: 2,

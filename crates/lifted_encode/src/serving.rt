@@ -4,14 +4,14 @@ ghost use Rattle.std.specs.List.{list_all};
 ghost use Rattle.bddl_model.specs.Truth.{Assignment};
 ghost use Rattle.bddl_model.specs.Circuit.{IsWire, holds};
 ghost use Rattle.bddl_model.specs.Growth.{Grows, HasRoom};
-ghost use Rattle.bddl_model.specs.Setup.{atom_of, line_of};
+ghost use Rattle.bddl_model.specs.Setup.{test_of, tests_of};
 ghost use Rattle.lifted_encode.specs.Fixed.{names_cell, line_fits};
 ghost use Rattle.lifted_encode.specs.Serving.{agrees, serves, number_in, IsWord, IsBoard};
 
 use crate::board::Board;
 use crate::inputs::StartInputs;
 use crate::number::is_number;
-use bddl_model::{AtomList, AtomText, NoMemory, TermText, Wire};
+use bddl_model::{NoMemory, TermText, TestList, TestText, Wire};
 use circuit_dag::Dag;
 
 // The number that a term is.
@@ -25,26 +25,26 @@ fn number_of(term: TermText) -> u32
     }
 }
 
-// Whether an atom agrees with the board at the place: its mark stands, or the place is elsewhere.
-fn atom_agrees(
+// Whether a test agrees with the board at the place: it holds, or the place is elsewhere.
+fn test_agrees(
     dag: &mut Dag,
     board: &Board,
     inputs: StartInputs,
-    atom: &AtomText,
+    test: &TestText,
 ) -> Result<Wire, NoMemory>
     requires board { IsBoard board.now }
-    requires cell { names_cell board.now.width board.now.height atom.now ≡ true }
-    requires column { IsWord 4 dag.old.inputs inputs.column }
-    requires row { IsWord 4 dag.old.inputs inputs.row }
-    requires room { HasRoom dag.old 9 }
+    requires cell { names_cell board.now.width board.now.height test.now ≡ true }
+    requires column { IsWord 6 dag.old.inputs inputs.column }
+    requires row { IsWord 6 dag.old.inputs inputs.row }
+    requires room { HasRoom dag.old 13 }
     ensures wire { IfOk result (λ w. IsWire dag.new w) }
     ensures value { IfOk result (λ w. (a : Assignment) → holds dag.new w a
-        ≡ agrees board.now.width board.now.marks.items (number_in inputs.column a) (number_in inputs.row a) (atom_of board.now.width board.now.height atom.now)) }
-    ensures grows { Grows 9 dag.old dag.new }
+        ≡ agrees board.now.width board.now.marks.items (number_in inputs.column a) (number_in inputs.row a) (test_of board.now.width board.now.height test.now)) }
+    ensures grows { Grows 13 dag.old dag.new }
 {
-    let x = number_of(atom.x);
-    let y = number_of(atom.y);
-    if board.mark_at(x, y) == atom.mark {
+    let x = number_of(test.atom.x);
+    let y = number_of(test.atom.y);
+    if (board.mark_at(x, y) == test.atom.mark) != test.negated {
         return Ok(dag.truth());
     }
     let column = is_number(dag, inputs.column, x - 1)?;
@@ -53,48 +53,48 @@ fn atom_agrees(
     Ok(dag.not(here))
 }
 
-fn with_atom(
+fn with_test(
     dag: &mut Dag,
     before: Wire,
     board: &Board,
     inputs: StartInputs,
-    atom: &AtomText,
+    test: &TestText,
 ) -> Result<Wire, NoMemory>
     requires before { IsWire dag.old before }
     requires board { IsBoard board.now }
-    requires cell { names_cell board.now.width board.now.height atom.now ≡ true }
-    requires column { IsWord 4 dag.old.inputs inputs.column }
-    requires row { IsWord 4 dag.old.inputs inputs.row }
-    requires room { HasRoom dag.old 10 }
+    requires cell { names_cell board.now.width board.now.height test.now ≡ true }
+    requires column { IsWord 6 dag.old.inputs inputs.column }
+    requires row { IsWord 6 dag.old.inputs inputs.row }
+    requires room { HasRoom dag.old 14 }
     ensures wire { IfOk result (λ w. IsWire dag.new w) }
     ensures value { IfOk result (λ w. (a : Assignment) → holds dag.new w a
-        ≡ (holds dag.old before a && agrees board.now.width board.now.marks.items (number_in inputs.column a) (number_in inputs.row a) (atom_of board.now.width board.now.height atom.now))) }
-    ensures grows { Grows 10 dag.old dag.new }
+        ≡ (holds dag.old before a && agrees board.now.width board.now.marks.items (number_in inputs.column a) (number_in inputs.row a) (test_of board.now.width board.now.height test.now))) }
+    ensures grows { Grows 14 dag.old dag.new }
 {
-    let agrees = atom_agrees(dag, board, inputs, atom)?;
+    let agrees = test_agrees(dag, board, inputs, test)?;
     dag.and(before, agrees)
 }
 
-// Whether each atom of a line agrees.
+// Whether each test of a line agrees.
 fn line_agrees(
     dag: &mut Dag,
     board: &Board,
     inputs: StartInputs,
-    line: &[AtomText],
+    line: &[TestText],
 ) -> Result<Wire, NoMemory>
     requires board { IsBoard board.now }
     requires cells { list_all (names_cell board.now.width board.now.height) line.now ≡ true }
-    requires column { IsWord 4 dag.old.inputs inputs.column }
-    requires row { IsWord 4 dag.old.inputs inputs.row }
-    requires room { HasRoom dag.old (10 * length line.now) }
+    requires column { IsWord 6 dag.old.inputs inputs.column }
+    requires row { IsWord 6 dag.old.inputs inputs.row }
+    requires room { HasRoom dag.old (14 * length line.now) }
     ensures wire { IfOk result (λ w. IsWire dag.new w) }
     ensures value { IfOk result (λ w. (a : Assignment) → holds dag.new w a
-        ≡ list_all (agrees board.now.width board.now.marks.items (number_in inputs.column a) (number_in inputs.row a)) (line_of board.now.width board.now.height line.now)) }
-    ensures grows { Grows (10 * length line.now) dag.old dag.new }
+        ≡ list_all (agrees board.now.width board.now.marks.items (number_in inputs.column a) (number_in inputs.row a)) (tests_of board.now.width board.now.height line.now)) }
+    ensures grows { Grows (14 * length line.now) dag.old dag.new }
 {
     let mut all = dag.truth();
-    for atom in line {
-        all = with_atom(dag, all, board, inputs, atom)?;
+    for test in line {
+        all = with_test(dag, all, board, inputs, test)?;
     }
     Ok(all)
 }
@@ -106,20 +106,20 @@ fn without_line(
     board: &Board,
     inputs: StartInputs,
     number: u32,
-    line: &[AtomText],
+    line: &[TestText],
 ) -> Result<Wire, NoMemory>
     requires before { IsWire dag.old before }
     requires board { IsBoard board.now }
     requires fits { line_fits board.now.width board.now.height line.now ≡ true }
     requires line { IsWord 8 dag.old.inputs inputs.line }
-    requires column { IsWord 4 dag.old.inputs inputs.column }
-    requires row { IsWord 4 dag.old.inputs inputs.row }
-    requires room { HasRoom dag.old 170 }
+    requires column { IsWord 6 dag.old.inputs inputs.column }
+    requires row { IsWord 6 dag.old.inputs inputs.row }
+    requires room { HasRoom dag.old 234 }
     ensures wire { IfOk result (λ w. IsWire dag.new w) }
     ensures value { IfOk result (λ w. (a : Assignment) → holds dag.new w a
         ≡ (holds dag.old before a && not ((number_in inputs.line a == number)
-        && list_all (agrees board.now.width board.now.marks.items (number_in inputs.column a) (number_in inputs.row a)) (line_of board.now.width board.now.height line.now)))) }
-    ensures grows { Grows 170 dag.old dag.new }
+        && list_all (agrees board.now.width board.now.marks.items (number_in inputs.column a) (number_in inputs.row a)) (tests_of board.now.width board.now.height line.now)))) }
+    ensures grows { Grows 234 dag.old dag.new }
 {
     let chosen = is_number(dag, inputs.line, number)?;
     let agrees = line_agrees(dag, board, inputs, line)?;
@@ -134,20 +134,20 @@ pub fn some_line_serves(
     dag: &mut Dag,
     board: &Board,
     inputs: StartInputs,
-    lines: &[AtomList],
+    lines: &[TestList],
 ) -> Result<Wire, NoMemory>
     requires board { IsBoard board.now }
     requires fit { list_all (line_fits board.now.width board.now.height) lines.now ≡ true }
     requires line { IsWord 8 dag.old.inputs inputs.line }
-    requires column { IsWord 4 dag.old.inputs inputs.column }
-    requires row { IsWord 4 dag.old.inputs inputs.row }
+    requires column { IsWord 6 dag.old.inputs inputs.column }
+    requires row { IsWord 6 dag.old.inputs inputs.row }
     requires few { length lines.now ≤ 256 }
-    requires room { HasRoom dag.old (170 * length lines.now) }
+    requires room { HasRoom dag.old (234 * length lines.now) }
     ensures wire { IfOk result (λ w. IsWire dag.new w) }
     ensures value { IfOk result (λ w. (a : Assignment) → holds dag.new w a
-        ≡ serves board.now.width board.now.marks.items (map (line_of board.now.width board.now.height) lines.now)
+        ≡ serves board.now.width board.now.marks.items (map (tests_of board.now.width board.now.height) lines.now)
         (number_in inputs.line a) (number_in inputs.column a) (number_in inputs.row a)) }
-    ensures grows { Grows (170 * length lines.now) dag.old dag.new }
+    ensures grows { Grows (234 * length lines.now) dag.old dag.new }
 {
     let mut none = dag.truth();
     for (number, line) in lines.iter().enumerate() {

@@ -32,11 +32,11 @@ few_actions : (g : Game) (side : Side) → IsGame g → length (actions g side) 
 few_actions g Black is = is.black.few_actions
 few_actions g White is = is.white.few_actions
 
-pub few_gates : (g : Game) (side : Side) → IsGame g → length (actions g side) * (4 * (anchor_bits g + 4)) ≤ 384
+pub few_gates : (g : Game) (side : Side) → IsGame g → length (actions g side) * (4 * (anchor_bits g + 4)) ≤ 512
 few_gates g side is =
     let each = mul-le-mul_right (4 * (anchor_bits g + 4)) (few_actions g side is) in
-    let columns = bits_most g.width 4 (omega (arith, is.width)) in
-    let rows = bits_most g.height 4 (omega (arith, is.height)) in
+    let columns = bits_most g.width 6 (omega (arith, is.width)) in
+    let rows = bits_most g.height 6 (omega (arith, is.height)) in
     omega arith
 
 -- the parts into which a code is cut
@@ -63,8 +63,8 @@ module _ (g : Game) (side : Side) (is : IsGame g) (some : 1 ≤ length (actions 
   words_are_wires : (c : Circuit) → AreWires c code → AreCodeWires c words
   words_are_wires c are =
       let counts = lengths in
-      let columns = bits_most g.width 4 (omega (arith, is.width)) in
-      let rows = bits_most g.height 4 (omega (arith, is.height)) in
+      let columns = bits_most g.width 6 (omega (arith, is.width)) in
+      let rows = bits_most g.height 6 (omega (arith, is.height)) in
       let anchor = wires_behind c (bits s.actions) code are in
       record {
         action = subst (AreWires c) (sym parts.action) (wires_front c (bits s.actions) code are);

@@ -13,7 +13,7 @@ use Rattle.bddl_model.specs.Truth.{Assignment}
 use Rattle.bddl_model.specs.Circuit.{Circuit, holds}
 use Rattle.bddl_model.specs.Growth.{Grows, Makes}
 use Rattle.bddl_model.specs.Words.{word_value}
-use Rattle.bddl_model.specs.Game.{Game, actions, action_at}
+use Rattle.bddl_model.specs.Game.{Game, action_atoms, actions, action_at}
 use Rattle.bddl_model.specs.Rectangle.{in_rect, IsRectOf}
 use Rattle.bddl_model.specs.Codes.{fits_action, in_range}
 use Rattle.bddl_model.proofs.Growth.{grows_then}
@@ -76,7 +76,7 @@ each_more i gates = grind arith
 module _ (g : Game) (side : Side) (m : Move) where
   -- the actions before number i were tested, and now that one
   pub one_action_more : (i : ℕ) (r : Rect) (before after : Bool) → i < length (actions g side)
-      → IsRectOf g.width g.height ((action_at g side i).before ++ (action_at g side i).effects) r
+      → IsRectOf g.width g.height (action_atoms (action_at g side i)) r
       → before ≡ (nat_lt m.action i && in_range g side m)
       → after ≡ (before || is_at i r m)
       → after ≡ (nat_lt m.action (i + 1) && in_range g side m)

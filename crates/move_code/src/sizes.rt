@@ -64,9 +64,9 @@ fn most_preconditions(game: &Game) -> u32
     most
 }
 
-// The greatest number of atoms of a goal line of White.
-fn most_atoms(game: &Game) -> u32
-    ensures { result ≡ spec.most_atoms game.now.white_lines }
+// The greatest number of tests of a goal line of White.
+fn most_tests(game: &Game) -> u32
+    ensures { result ≡ spec.most_tests game.now.white_lines }
 {
     game.keeps_the_limits();
     let mut most = 0;
@@ -102,7 +102,7 @@ impl Sizes {
             white_line: bits(game.lines(Side::White)),
             white_anchor: where_lines(game, anchor),
             white_time: where_lines(game, time),
-            refuting: bits(most_atoms(game)),
+            refuting: bits(most_tests(game)),
         }
     }
 }

@@ -5,12 +5,12 @@ use Rattle.std.proofs.Math.Numerals.{suc-eq-add-one}
 use Rattle.std.proofs.lemmas.Bool.Decides.{nat_tests}
 use Rattle.bddl_model.specs.declared.game.Side.{Side}
 use Rattle.bddl_model.specs.declared.game.Side.TheVariants.{Black, White}
-use Rattle.bddl_model.specs.declared.game.Atom.{Atom}
-use Rattle.bddl_model.specs.declared.texts.AtomText.{AtomText}
+use Rattle.bddl_model.specs.declared.game.Test.{Test}
+use Rattle.bddl_model.specs.declared.texts.TestText.{TestText}
 use Rattle.bddl_model.specs.declared.texts.ActionText.{ActionText}
 use Rattle.bddl_model.specs.declared.check.CheckFault.{CheckFault}
 use Rattle.bddl_model.specs.Game.{Game, Action, with_action, with_line}
-use Rattle.bddl_model.specs.Setup.{action_of, line_of}
+use Rattle.bddl_model.specs.Setup.{action_of, tests_of}
 use Rattle.bddl_model.specs.Check.{first_of, fault_if, action_fault, each_action, line_fault, each_line}
 use Rattle.offset_check.specs.Checks.{with_actions, with_lines}
 use Rattle.offset_check.proofs.Faults.{Stops, stops, passes, stops_same}
@@ -24,36 +24,42 @@ not_too_many most n f few =
 
 -- ---- lines
 
-same_sizes : (g : Game) (side : Side) (lines : List (List Atom)) → ((with_lines g side lines).width ≡ g.width) × ((with_lines g side lines).height ≡ g.height)
+same_sizes : (g : Game) (side : Side) (lines : List (List Test)) → ((with_lines g side lines).width ≡ g.width) × ((with_lines g side lines).height ≡ g.height)
 same_sizes g Black lines = (refl, refl)
 same_sizes g White lines = (refl, refl)
 
-pub lines_at : (g now : Game) (side : Side) (lines : List (List Atom)) → now ≡ with_lines g side lines → (now.width ≡ g.width) × (now.height ≡ g.height)
+pub lines_at : (g now : Game) (side : Side) (lines : List (List Test)) → now ≡ with_lines g side lines → (now.width ≡ g.width) × (now.height ≡ g.height)
 lines_at g now side lines e = rw e (same_sizes g side lines)
 
-one_line_more : (g : Game) (side : Side) (lines : List (List Atom)) (l : List Atom) → with_line (with_lines g side lines) side l ≡ with_lines g side (lines ++ l ∷ [])
+one_line_more : (g : Game) (side : Side) (lines : List (List Test)) (l : List Test) → with_line (with_lines g side lines) side l ≡ with_lines g side (lines ++ l ∷ [])
 one_line_more g Black lines l = refl
 one_line_more g White lines l = refl
 
-pub lines_added : (g now next : Game) (side : Side) (lines : List (List AtomText)) (i : ℕ) (l d : List AtomText) → i < length lines → l ≡ get_or lines i d
-    → now ≡ with_lines g side (map (line_of g.width g.height) (take i lines))
-    → next ≡ with_line now side (line_of now.width now.height l)
-    → next ≡ with_lines g side (map (line_of g.width g.height) (take (i + 1) lines))
+pub lines_added : (g now next : Game) (side : Side) (lines : List (List TestText)) (i : ℕ) (l d : List TestText) → i < length lines → l ≡ get_or lines i d
+    → now ≡ with_lines g side (map (tests_of g.width g.height) (take i lines))
+    → next ≡ with_line now side (tests_of now.width now.height l)
+    → next ≡ with_lines g side (map (tests_of g.width g.height) (take (i + 1) lines))
 lines_added g now next side lines i l d h is before after =
-    let made = line_of g.width g.height in
+    let made = tests_of g.width g.height in
     let sizes = lines_at g now side (map made (take i lines)) before in
     let items : map made (take (i + 1) lines) ≡ map made (take i lines) ++ made (get_or lines i d) ∷ [] = ap (map made) (take_more lines i d h) ∙ map-append made (take i lines) (get_or lines i d ∷ []) in
-    let same : line_of now.width now.height l ≡ made (get_or lines i d) = rw (sizes.0, sizes.1, is) refl in
+    let same : tests_of now.width now.height l ≡ made (get_or lines i d) = rw (sizes.0, sizes.1, is) refl in
     after ∙ ap₂ (λ game line. with_line game side line) before same ∙ one_line_more g side (map made (take i lines)) (made (get_or lines i d)) ∙ ap (with_lines g side) (sym items)
 
-pub lines_passed : (width height w h : ℕ) → w ≡ width → h ≡ height → (side : Side) (lines : List (List AtomText)) (i : ℕ) (l d : List AtomText) → i < length lines → l ≡ get_or lines i d
-    → line_fault w h side (i + 1) l ≡ None
-    → first_of (each_line width height side (i + 1 + 1) (drop (i + 1) lines)) ≡ first_of (each_line width height side (i + 1) (drop i lines))
-lines_passed width height w h wide high side lines i l d within is passed =
-    let here : line_fault width height side (i + 1) (get_or lines i d) ≡ None = rw (sym wide, sym high, sym is) passed in
-    let rest = drop (i + 1) lines in
-    ap (λ n. first_of (each_line width height side n rest)) (sym (suc-eq-add-one (i + 1)))
-    ∙ sym (at_drop_more (λ xs. first_of (each_line width height side (i + 1) xs)) lines i d within ∙ passes (line_fault width height side (i + 1) (get_or lines i d)) _ here)
+module _ (width height w h : ℕ) (wide : w ≡ width) (high : h ≡ height) (side : Side) (lines : List (List TestText)) (i : ℕ) (l d : List TestText) (within : i < length lines) (is : l ≡ get_or lines i d) where
+  abbrev lines_from : ℕ → List (List TestText) → Option CheckFault
+  lines_from number rest = first_of (each_line width height side number rest)
+
+  pub lines_passed : line_fault w h side (i + 1) l ≡ None → lines_from (i + 1 + 1) (drop (i + 1) lines) ≡ lines_from (i + 1) (drop i lines)
+  lines_passed passed =
+      let here : line_fault width height side (i + 1) (get_or lines i d) ≡ None = rw (sym wide, sym high, sym is) passed in
+      ap (λ n. lines_from n (drop (i + 1) lines)) (sym (suc-eq-add-one (i + 1)))
+      ∙ sym (at_drop_more (lines_from (i + 1)) lines i d within ∙ passes (line_fault width height side (i + 1) (get_or lines i d)) _ here)
+
+  pub lines_stopped : (f : CheckFault) → Stops (line_fault w h side (i + 1) l) f → Stops (lines_from (i + 1) (drop i lines)) f
+  lines_stopped f stopped =
+      let here = stops_same _ (line_fault width height side (i + 1) (get_or lines i d)) f (rw (wide, high, is) refl) stopped in
+      stops_same _ _ f (sym (at_drop_more (lines_from (i + 1)) lines i d within)) (stops _ _ f here)
 
 -- ---- actions
 

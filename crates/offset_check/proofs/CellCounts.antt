@@ -1,5 +1,5 @@
 -- How many cells there are on a board.
-use Rattle.std.proofs.Common.{◌≡◌, ℕ, ◌+◌, ◌-◌, ◌*◌, ◌/◌, ◌%◌, ◌<◌, ◌≤◌, Bool, true, false, ◌&&◌, not, eqb, List, [], ◌∷◌, length, map, sym, ap, ◌∙◌, ⊎_elim, arith}
+use Rattle.std.proofs.Common.{◌≡◌, ◌≢◌, ℕ, ◌+◌, ◌-◌, ◌*◌, ◌/◌, ◌%◌, ◌<◌, ◌≤◌, Bool, true, false, ◌&&◌, not, eqb, List, [], ◌∷◌, length, map, sym, ap, ◌∙◌, ⊎_elim, arith}
 use Rattle.std.specs.List.{list_any, list_all, IsDistinct, AllByRecursion}
 use Rattle.std.proofs.lemmas.Bool.{and_parts, or_parts, or_cases, eqb-true, not-true, false_from_ne_true, false≢true}
 use Rattle.std.proofs.lemmas.Bool.Decides.{nat_tests}
@@ -41,11 +41,14 @@ same_place width height a b on_a on_b e =
     let columns = digits.1 in
     (omega arith, omega arith)
 
-places_differ : (width height : ℕ) (a b : InitAtom) → cell_on_board width height a ≡ true → cell_on_board width height b ≡ true → same_cell a b ≡ false → eqb (place width a) (place width b) ≡ false
-places_differ width height a b on_a on_b apart = false_from_ne_true (eqb (place width a) (place width b)) (λ e. false≢true (sym apart ∙ same (same_place width height a b on_a on_b (eqb-true (place width a) (place width b) e))))
+pub places_apart : (width height : ℕ) (a b : InitAtom) → cell_on_board width height a ≡ true → cell_on_board width height b ≡ true → same_cell a b ≡ false → index width a.x a.y ≢ index width b.x b.y
+places_apart width height a b on_a on_b apart = λ e. false≢true (sym apart ∙ same (same_place width height a b on_a on_b e))
   where
     same : (a.x ≡ b.x) × (a.y ≡ b.y) → same_cell a b ≡ true
     same e = grind (arith, nat_tests)
+
+places_differ : (width height : ℕ) (a b : InitAtom) → cell_on_board width height a ≡ true → cell_on_board width height b ≡ true → same_cell a b ≡ false → eqb (place width a) (place width b) ≡ false
+places_differ width height a b on_a on_b apart = false_from_ne_true (eqb (place width a) (place width b)) (λ e. places_apart width height a b on_a on_b apart (eqb-true (place width a) (place width b) e))
 
 apart_from : (width height : ℕ) (a : InitAtom) (cells : List InitAtom) → cell_on_board width height a ≡ true → list_all (cell_on_board width height) cells ≡ true → list_any (same_cell a) cells ≡ false → AllByRecursion (λ n. eqb (place width a) n ≡ false) (map (place width) cells)
 apart_from width height a [] on_a on others = tt

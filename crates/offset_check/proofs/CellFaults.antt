@@ -11,7 +11,7 @@ use Rattle.bddl_model.specs.Fitting.{on_side, cell_on_board}
 use Rattle.offset_check.proofs.CellCounts.{cells_apart}
 
 -- a cell without a fault is on the board, and none before it is the same
-passed : (width height : ℕ) (earlier : List InitAtom) (a : InitAtom) → cell_fault width height earlier a ≡ None → (cell_on_board width height a ≡ true) × (list_any (same_cell a) earlier ≡ false)
+pub passed : (width height : ℕ) (earlier : List InitAtom) (a : InitAtom) → cell_fault width height earlier a ≡ None → (cell_on_board width height a ≡ true) × (list_any (same_cell a) earlier ≡ false)
 passed width height earlier a h = parts (on_side width a.x) (on_side height a.y) (list_any (same_cell a) earlier) _ _ _ h
   where
     parts : (column row twice : Bool) (f g k : CheckFault) → first_of (fault_if (not column) f ∷ fault_if (not row) g ∷ fault_if twice k ∷ []) ≡ None → ((column && row) ≡ true) × (twice ≡ false)

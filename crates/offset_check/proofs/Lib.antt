@@ -3,4 +3,5 @@ pub mod AnchorFound
 pub mod AddedItems
 pub mod CellCounts
 pub mod CellFaults
+pub mod NamedCells
 pub mod SetupFaults

@@ -9,7 +9,7 @@ use Rattle.bddl_model.specs.declared.texts.ProblemText.{ProblemText}
 use Rattle.bddl_model.specs.Check.{first_of, size_fault, depth_fault, actions_fault, cells_fault, lines_fault, setup_fault, setup_unless, checked_setup}
 use Rattle.bddl_model.specs.Board.{SizedBoard, open_board}
 use Rattle.bddl_model.specs.Game.{Game}
-use Rattle.bddl_model.specs.Setup.{Setup, setup_of, action_of, line_of, marked}
+use Rattle.bddl_model.specs.Setup.{Setup, setup_of, action_of, tests_of, marked}
 
 -- ---- one check after the other
 
@@ -63,7 +63,7 @@ abbrev pub acted : DomainText → ProblemText → Game
 acted d p = record { width = p.width; height = p.height; black_actions = map (action_of p.width p.height) d.black; white_actions = map (action_of p.width p.height) d.white; black_lines = []; white_lines = [] }
 
 abbrev pub aimed : Game → ProblemText → Game
-aimed g p = record g { black_lines = map (line_of g.width g.height) p.black; white_lines = map (line_of g.width g.height) p.white }
+aimed g p = record g { black_lines = map (tests_of g.width g.height) p.black; white_lines = map (tests_of g.width g.height) p.white }
 
 abbrev pub started : ProblemText → SizedBoard
 started p = record { width = p.width; height = p.height; marks = marked p.width p.init (open_board p.width p.height) }
@@ -92,10 +92,10 @@ told_goals d p first r f is acting fine acts cells_fine here = told d p r f is (
     there : IsTold f (goals p)
     there = rw (same_sides d p first acting) here
 
-set_up : (d : DomainText) (p : ProblemText) (first made : Game) (board : SizedBoard) → first ≡ acted d p → made ≡ aimed first p → board ≡ started p → record { game = made; board = board.marks; first = Black; depth = p.depth } ≡ setup_of d p
+set_up : (d : DomainText) (p : ProblemText) (first made : Game) (board : SizedBoard) → first ≡ acted d p → made ≡ aimed first p → board ≡ started p → record { game = made; board = board.marks; first = p.first; depth = p.depth } ≡ setup_of d p
 set_up d p first made board acting aiming starting = rw (aiming, acting, starting) refl
 
-pub no_fault : (d : DomainText) (p : ProblemText) (first made : Game) (board : SizedBoard) → first ≡ acted d p → made ≡ aimed first p → board ≡ started p → sizes p ≡ None → actions d p ≡ None → cells p ≡ None → goals_on first.width first.height p ≡ None → Ok (record { game = made; board = board.marks; first = Black; depth = p.depth }) ≡ checked_setup d p
+pub no_fault : (d : DomainText) (p : ProblemText) (first made : Game) (board : SizedBoard) → first ≡ acted d p → made ≡ aimed first p → board ≡ started p → sizes p ≡ None → actions d p ≡ None → cells p ≡ None → goals_on first.width first.height p ≡ None → Ok (record { game = made; board = board.marks; first = p.first; depth = p.depth }) ≡ checked_setup d p
 no_fault d p first made board acting aiming starting fine acts cells_fine aims = ap Ok (set_up d p first made board acting aiming starting) ∙ sym (ap (λ o. setup_unless o (setup_of d p)) all_fine)
   where
     all_fine : setup_fault d p ≡ None

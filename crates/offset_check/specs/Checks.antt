@@ -2,7 +2,7 @@
 use Rattle.std.specs.Prelude.{◌≡◌, ◌≤◌, ◌⊎◌, All, List, length, Option, None, Some, Result, Ok, Err}
 use Rattle.bddl_model.specs.declared.game.Side.{Side}
 use Rattle.bddl_model.specs.declared.game.Side.TheVariants.{Black, White}
-use Rattle.bddl_model.specs.declared.game.Atom.{Atom}
+use Rattle.bddl_model.specs.declared.game.Test.{Test}
 use Rattle.bddl_model.specs.declared.texts.ActionText.{ActionText}
 use Rattle.bddl_model.specs.declared.check.CheckFault.{CheckFault}
 use Rattle.bddl_model.specs.declared.check.CheckFault.TheVariants as fault
@@ -17,7 +17,7 @@ abbrev pub with_actions : Game → Side → List Action → Game
 with_actions g Black actions = record g { black_actions = actions }
 with_actions g White actions = record g { white_actions = actions }
 
-abbrev pub with_lines : Game → Side → List (List Atom) → Game
+abbrev pub with_lines : Game → Side → List (List Test) → Game
 with_lines g Black lines = record g { black_lines = lines }
 with_lines g White lines = record g { white_lines = lines }
 

@@ -6,7 +6,7 @@ ghost use Rattle.bddl_model.specs.Setup.{action_of};
 ghost use Rattle.offset_check.specs.Checks.{Checks, with_actions, AreNamed};
 
 use crate::items::{check_fits, check_length};
-use crate::terms::{atoms_of, check_atoms};
+use crate::terms::{atoms_of, check_atoms, check_tests, tests_of};
 use bddl_model::{ActionText, CheckFault, Item, Part, Side};
 use grid_game::Game;
 use std::alloc::Global;
@@ -46,15 +46,16 @@ fn add_action(
         number: earlier.len() as u32 + 1,
     };
     let (width, height) = (game.width(), game.height());
-    check_length(item, Part::Before, 8, action.before.as_slice())?;
-    check_length(item, Part::Effects, 4, action.effects.as_slice())?;
+    let (before, effects) = (action.before.as_slice(), action.effects.as_slice());
+    check_length(item, Part::Before, 8, before.len())?;
+    check_length(item, Part::Effects, 4, effects.len())?;
     check_name(item, earlier, action.name.as_slice())?;
-    check_atoms(item, width, height, action.before.as_slice())?;
-    check_atoms(item, width, height, action.effects.as_slice())?;
-    let before = atoms_of(alloc, width, height, action.before.as_slice())?;
-    let effects = atoms_of(alloc, width, height, action.effects.as_slice())?;
-    check_fits(item, width, height, &before, &effects)?;
-    game.add_action(side, action.name.as_slice(), &before, &effects)?;
+    check_tests(item, width, height, before)?;
+    check_atoms(item, width, height, effects)?;
+    let tests = tests_of(alloc, width, height, before)?;
+    let atoms = atoms_of(alloc, width, height, effects)?;
+    check_fits(item, width, height, &tests, &atoms)?;
+    game.add_action(side, action.name.as_slice(), &tests, &atoms)?;
     Ok(())
 }
 

@@ -2,12 +2,12 @@
 ghost use Rattle.std.specs.Prelude.{◌≡◌, ◌<◌, [], length, map, OnOk};
 ghost use Rattle.bddl_model.specs.Check.{lines_fault, line_fault};
 ghost use Rattle.bddl_model.specs.Game as spec;
-ghost use Rattle.bddl_model.specs.Setup.{line_of};
+ghost use Rattle.bddl_model.specs.Setup.{tests_of};
 ghost use Rattle.offset_check.specs.Checks.{Checks, with_lines};
 
 use crate::items::{check_fits, check_length};
-use crate::terms::{atoms_of, check_atoms};
-use bddl_model::{AtomList, AtomText, CheckFault, Item, Part, Side};
+use crate::terms::{check_tests, tests_of};
+use bddl_model::{CheckFault, Item, Part, Side, TestList, TestText};
 use grid_game::Game;
 use std::alloc::Global;
 
@@ -17,17 +17,17 @@ fn add_line(
     game: &mut Game,
     side: Side,
     number: u32,
-    atoms: &[AtomText],
+    tests: &[TestText],
 ) -> Result<(), CheckFault>
     requires few { length (spec.lines game.old side) < 256 }
-    ensures checks { Checks (line_fault game.old.width game.old.height side number atoms.now) result }
-    ensures added { OnOk result (game.new ≡ spec.with_line game.old side (line_of game.old.width game.old.height atoms.now)) }
+    ensures checks { Checks (line_fault game.old.width game.old.height side number tests.now) result }
+    ensures added { OnOk result (game.new ≡ spec.with_line game.old side (tests_of game.old.width game.old.height tests.now)) }
 {
     let item = Item::Line { side, number };
     let (width, height) = (game.width(), game.height());
-    check_length(item, Part::Line, 16, atoms)?;
-    check_atoms(item, width, height, atoms)?;
-    let line = atoms_of(alloc, width, height, atoms)?;
+    check_length(item, Part::Line, 16, tests.len())?;
+    check_tests(item, width, height, tests)?;
+    let line = tests_of(alloc, width, height, tests)?;
     check_fits(item, width, height, &line, &[])?;
     game.add_line(side, &line)?;
     Ok(())
@@ -38,11 +38,11 @@ pub fn add_lines(
     alloc: Global,
     game: &mut Game,
     side: Side,
-    lines: &[AtomList],
+    lines: &[TestList],
 ) -> Result<(), CheckFault>
     requires { spec.lines game.old side ≡ [] }
     ensures checks { Checks (lines_fault game.old.width game.old.height side lines.now) result }
-    ensures added { OnOk result (game.new ≡ with_lines game.old side (map (line_of game.old.width game.old.height) lines.now)) }
+    ensures added { OnOk result (game.new ≡ with_lines game.old side (map (tests_of game.old.width game.old.height) lines.now)) }
 {
     let found = lines.len();
     if found > 256 {
@@ -60,17 +60,21 @@ pub fn add_lines(
 #[cfg(test)]
 mod tests {
     use super::*;
-    use bddl_model::{Items, Mark, TermText};
+    use bddl_model::{AtomText, Items, Mark, TermText};
     use std::test::Fail;
 
     #[test]
     fn a_line_is_added(rt: HostRuntime) -> Result<(), Fail> {
         let mut game = Game::begin(rt.alloc(), 3, 2);
         let mut line = Items::new(rt.alloc());
-        line.push(AtomText {
+        let atom = AtomText {
             mark: Mark::Black,
             x: TermText::Greatest,
             y: TermText::Number(2),
+        };
+        line.push(TestText {
+            atom,
+            negated: true,
         })?;
         let lines = [line];
         add_lines(rt.alloc(), &mut game, Side::Black, &lines)?;

@@ -6,7 +6,7 @@ ghost use Rattle.bddl_model.specs.declared.game.Side.TheVariants as side;
 ghost use Rattle.bddl_model.specs.Board.{open_board};
 ghost use Rattle.bddl_model.specs.Check.{first_of, size_fault, depth_fault, actions_fault, cells_fault, lines_fault, checked_setup};
 ghost use Rattle.bddl_model.specs.Limits.{IsSide};
-ghost use Rattle.bddl_model.specs.Setup.{action_of, line_of, marked};
+ghost use Rattle.bddl_model.specs.Setup.{action_of, tests_of, marked};
 ghost use Rattle.offset_check.specs.Checks.{Checks, AreNamed};
 
 use crate::actions::add_actions;
@@ -85,7 +85,7 @@ fn start_board(alloc: Global, problem: &ProblemText) -> Result<Board, CheckFault
     ensures board { let p = problem.now in IfOk result (λ b. b ≡ record { width = p.width; height = p.height; marks = marked p.width p.init (open_board p.width p.height) }) }
 {
     let mut board = Board::free(alloc, problem.width, problem.height)?;
-    mark_cells(&mut board, problem.init.as_slice())?;
+    mark_cells(alloc, &mut board, problem.init.as_slice())?;
     Ok(board)
 }
 
@@ -94,7 +94,7 @@ fn add_goals(alloc: Global, game: &mut Game, problem: &ProblemText) -> Result<()
     requires black { game.old.black_lines ≡ [] }
     requires white { game.old.white_lines ≡ [] }
     ensures checks { Checks (first_of (lines_fault game.old.width game.old.height side.Black problem.now.black ∷ lines_fault game.old.width game.old.height side.White problem.now.white ∷ [])) result }
-    ensures added { OnOk result (game.new ≡ record game.old { black_lines = map (line_of game.old.width game.old.height) problem.now.black; white_lines = map (line_of game.old.width game.old.height) problem.now.white }) }
+    ensures added { OnOk result (game.new ≡ record game.old { black_lines = map (tests_of game.old.width game.old.height) problem.now.black; white_lines = map (tests_of game.old.width game.old.height) problem.now.white }) }
 {
     add_lines(alloc, game, Side::Black, problem.black.as_slice())?;
     add_lines(alloc, game, Side::White, problem.white.as_slice())
@@ -115,7 +115,7 @@ pub fn check(alloc: Global, domain: &DomainText, problem: &ProblemText) -> Resul
     Ok(Setup {
         game,
         board,
-        first: Side::Black,
+        first: problem.first,
         depth: problem.depth,
     })
 }

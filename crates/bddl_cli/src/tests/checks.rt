@@ -62,13 +62,13 @@ fn assert_told(rt: &impl Abort, alloc: Global, cases: &[(&str, &str, &str)]) -> 
 #[test]
 fn sizes_and_depths_out_of_range_are_told(rt: HostRuntime) -> Result<(), Fail> {
     let cases = [
-        ("17 1", "0", "width 17 is not 1 to 16"),
-        ("0 1", "0", "width 0 is not 1 to 16"),
-        ("1 17", "0", "height 17 is not 1 to 16"),
-        ("1 0", "0", "height 0 is not 1 to 16"),
-        ("999999999 0", "99", "width 999999999 is not 1 to 16"),
-        ("16 99", "99", "height 99 is not 1 to 16"),
-        ("16 16", "32", "depth 32 is over 31"),
+        ("65 1", "0", "width 65 is not 1 to 64"),
+        ("0 1", "0", "width 0 is not 1 to 64"),
+        ("1 65", "0", "height 65 is not 1 to 64"),
+        ("1 0", "0", "height 0 is not 1 to 64"),
+        ("999999999 0", "99", "width 999999999 is not 1 to 64"),
+        ("64 99", "99", "height 99 is not 1 to 64"),
+        ("64 64", "32", "depth 32 is over 31"),
         ("1 1", "999999999", "depth 999999999 is over 31"),
     ];
     for (sides, depth, fault) in &cases {
@@ -149,6 +149,7 @@ fn numbers_of_actions_off_the_board_are_told(rt: HostRuntime) -> Result<(), Fail
         ("", "black(1,0)", "0"),
         ("", "black(1,3)", "3"),
         ("open(?x+9,?y)", "black(4,?y)", "4"),
+        ("open(?x,?y) NOT(white(?x,3))", "black(4,?y)", "3"),
     ];
     for (before, effects, number) in &cases {
         let text = action(rt.alloc(), "a", before, effects)?;
@@ -166,6 +167,8 @@ fn actions_that_fit_nowhere_are_told(rt: HostRuntime) -> Result<(), Fail> {
         ("open(?x+999999999,?y)", ""),
         ("open(?x+1,?y)", "black(?x-2,?y)"),
         ("open(?x,?y+1) open(?x,?y-1)", "black(?x,?y)"),
+        ("NOT(open(?x+3,?y))", ""),
+        ("NOT(open(?x,?y+1)) open(?x,?y-1)", "black(?x,?y)"),
     ];
     for (before, effects) in &cases {
         let fitting = action(rt.alloc(), "b", "open(?x+2,?y-1)", "black(xmax,ymin)")?;
@@ -239,6 +242,11 @@ fn faults_of_goal_lines_are_told(rt: HostRuntime) -> Result<(), Fail> {
             "(black(?x+9,?y) black(0,?y))",
             " 1: number 0 is off the board",
         ),
+        ("(NOT(black(?x+3,?y)))", " 1: never on the board"),
+        (
+            "(NOT(black(1,1))) (black(1,1) NOT(open(4,1)))",
+            " 2: number 4 is off the board",
+        ),
     ];
     for (lines, fault) in &cases {
         assert_line_fault(&rt, rt.alloc(), lines, fault)?;
@@ -251,6 +259,9 @@ fn long_lines_and_many_lines_are_told(rt: HostRuntime) -> Result<(), Fail> {
     let atoms = repeated(rt.alloc(), "black(0,1) ", 17)?;
     let line = format!(in rt.alloc(); "() ({atoms})")?;
     assert_line_fault(&rt, rt.alloc(), &line, " 2: 17 atoms are over 16")?;
+    let negated = repeated(rt.alloc(), "NOT(black(0,1)) ", 16)?;
+    let line = format!(in rt.alloc(); "(black(?x,?y) {negated})")?;
+    assert_line_fault(&rt, rt.alloc(), &line, " 1: 17 atoms are over 16")?;
     let lines = repeated(rt.alloc(), "(black(0,1)) ", 257)?;
     assert_line_fault(&rt, rt.alloc(), &lines, "s: 257 are over 256")
 }
@@ -306,9 +317,9 @@ fn cells_are_checked_next_and_then_goals(rt: HostRuntime) -> Result<(), Fail> {
 #[test]
 fn games_with_actions_are_not_built(rt: HostRuntime) -> Result<(), Fail> {
     let alloc = rt.alloc();
-    let board = "#boardsize 16 16 #init () #depth 31 #blackgoals (black(?x,?y-15)) #whitegoals";
-    let near = action(alloc, "a", "open(?x,?y)", "black(?x+15,?y)")?;
-    let far = action(alloc, "a", "open(?x,?y)", "black(?x+16,?y)")?;
+    let board = "#boardsize 64 64 #init () #depth 31 #blackgoals (black(?x,?y-63)) #whitegoals";
+    let near = action(alloc, "a", "NOT(black(?x,?y))", "black(?x+63,?y)")?;
+    let far = action(alloc, "a", "open(?x,?y)", "black(?x+64,?y)")?;
     let same_name = domain(alloc, &near, &near)?;
     let eight = domain(alloc, &actions(alloc, 8)?, &actions(alloc, 8)?)?;
     let last = domain(alloc, &far, "")?;
@@ -336,6 +347,8 @@ fn more_than_a_start_board_is_not_built(rt: HostRuntime) -> Result<(), Fail> {
         "#boardsize 2 3 #init () #depth 0 #blackgoals (black(xmin,1)) #whitegoals",
         "#boardsize 2 3 #init () #depth 0 #blackgoals (black(1,ymax)) #whitegoals",
         "#boardsize 2 3 #init () #depth 0 #blackgoals () (black(2,3) open(1,?y)) () #whitegoals",
+        "#boardsize 2 3 #init () #depth 0 #blackgoals (NOT(black(2,3))) #whitegoals",
+        "#boardsize 2 3 #init () #depth 0 #blackgoals () (black(2,3) NOT(open(1,1))) #whitegoals",
     ];
     let acting = domain(rt.alloc(), "", &action(rt.alloc(), "a", "", "")?)?;
     for problem in problems {
@@ -351,15 +364,15 @@ fn more_than_a_start_board_is_not_built(rt: HostRuntime) -> Result<(), Fail> {
 #[test]
 fn a_game_at_its_limits_has_no_fault(rt: HostRuntime) -> Result<(), Fail> {
     let alloc = rt.alloc();
-    let before = repeated(alloc, "open(?x,?y-15) ", 8)?;
-    let effects = repeated(alloc, "black(?x+15,16) ", 4)?;
+    let before = repeated(alloc, "NOT(open(?x,?y-63)) ", 8)?;
+    let effects = repeated(alloc, "black(?x+63,64) ", 4)?;
     let full = action(alloc, "a2345678901234567890123456789012", &before, &effects)?;
     let domain = domain(alloc, &full, &full)?;
-    let atoms = repeated(alloc, "black(16,?y+15) ", 16)?;
+    let atoms = repeated(alloc, "black(64,?y+63) ", 16)?;
     let line = format!(in alloc; "({atoms})")?;
     let lines = repeated(alloc, &line, 256)?;
     let problem = format!(in alloc;
-        "#boardsize 16 16 #init (open(16,16)) #depth 31 #blackgoals {lines} #whitegoals {lines}"
+        "#boardsize 64 64 #init (open(64,64)) #depth 31 #blackgoals {lines} #whitegoals {lines}"
     )?;
     let cases = [
         (domain.as_str(), problem.as_str(), "domain: not built"),

@@ -19,10 +19,10 @@ fn a_domain_on_one_line_is_laid_out(rt: HostRuntime) -> Result<(), Fail> {
 }
 
 #[test]
-fn actions_keep_their_order_and_their_atoms(rt: HostRuntime) -> Result<(), Fail> {
+fn actions_keep_their_order_and_that_of_their_tests_and_atoms(rt: HostRuntime) -> Result<(), Fail> {
     let text = b"#blackactions
 :action right :parameters (?x, ?y)
-:precondition (open(?x,?y)open(?x+1,?y))
+:precondition (NOT ( black ( ?x , 01 ) )open(?x,?y)NOT(open(?x+1,?y)))
 :effect ( black(?x,?y)  black(?x+1,?y) )
 :action wait :parameters (?x, ?y) :precondition () :effect ( )
 #whiteactions
@@ -34,7 +34,7 @@ fn actions_keep_their_order_and_their_atoms(rt: HostRuntime) -> Result<(), Fail>
     let canonical = b"#blackactions
 :action right
 :parameters (?x, ?y)
-:precondition (open(?x,?y) open(?x+1,?y))
+:precondition (NOT(black(?x,1)) open(?x,?y) NOT(open(?x+1,?y)))
 :effect (black(?x,?y) black(?x+1,?y))
 :action wait
 :parameters (?x, ?y)
@@ -56,7 +56,8 @@ fn actions_keep_their_order_and_their_atoms(rt: HostRuntime) -> Result<(), Fail>
 
 #[test]
 fn a_problem_on_one_line_is_laid_out(rt: HostRuntime) -> Result<(), Fail> {
-    let text = b"#boardsize 02 2 #init () #depth 0 #blackgoals (black(xmin,02)) #whitegoals";
+    let text =
+        b"#boardsize 02 2 #init () #depth 0 #first black #blackgoals (black(xmin,02)) #whitegoals";
     let problem = read_problem(rt.alloc(), text)?;
     let printed = print_problem(rt.alloc(), &problem)?;
     let canonical =
@@ -66,11 +67,11 @@ fn a_problem_on_one_line_is_laid_out(rt: HostRuntime) -> Result<(), Fail> {
 }
 
 #[test]
-fn a_problem_keeps_its_cells_and_its_lines(rt: HostRuntime) -> Result<(), Fail> {
+fn a_problem_keeps_its_cells_its_first_side_and_its_lines(rt: HostRuntime) -> Result<(), Fail> {
     let text = b"#boardsize 16 007
 #init (black(1,1)white(2,01) open(16,7))
-#depth 031
-#blackgoals (black(?x,?y) black(?x+01,?y-2) open(3,ymin)) () (white(xmax,ymax))
+#depth 031 #first white
+#blackgoals (black(?x,?y) NOT(black(?x+01,?y-2))open(3,ymin)) () (white(xmax,ymax))
 #whitegoals
 (white(?x-999999999,?y+999999999)) ()
 ";
@@ -79,8 +80,9 @@ fn a_problem_keeps_its_cells_and_its_lines(rt: HostRuntime) -> Result<(), Fail> 
     let canonical = b"#boardsize 16 7
 #init (black(1,1) white(2,1) open(16,7))
 #depth 31
+#first white
 #blackgoals
-(black(?x,?y) black(?x+1,?y-2) open(3,ymin))
+(black(?x,?y) NOT(black(?x+1,?y-2)) open(3,ymin))
 ()
 (white(xmax,ymax))
 #whitegoals

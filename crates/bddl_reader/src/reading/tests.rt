@@ -1,14 +1,28 @@
 use crate::{read_domain, read_problem};
 use bddl_lexer::{lex, place_of};
 use bddl_model::{
-    ActionText, AtomList, AtomText, InitAtom, LexFault, Mark, Place, ReadFault, TermText, Token,
-    TokenKind,
+    ActionText, AtomText, InitAtom, LexFault, Mark, Place, ReadFault, Side, TermText, TestList,
+    TestText, Token, TokenKind,
 };
 use std::process::Abort;
 use std::test::Fail;
 
 fn atom(mark: Mark, x: TermText, y: TermText) -> AtomText {
     AtomText { mark, x, y }
+}
+
+fn is(mark: Mark, x: TermText, y: TermText) -> TestText {
+    TestText {
+        atom: atom(mark, x, y),
+        negated: false,
+    }
+}
+
+fn is_not(mark: Mark, x: TermText, y: TermText) -> TestText {
+    TestText {
+        atom: atom(mark, x, y),
+        negated: true,
+    }
 }
 
 fn at(line: u32, column: u32) -> Place {
@@ -33,19 +47,22 @@ fn assert_occupies(rt: &impl Abort, actions: &[ActionText], mark: Mark) {
     assert_eq!(rt; actions.len(), 1);
     for action in actions {
         assert_eq!(rt; action.name.as_slice(), b"occupy".as_slice());
-        let here = atom(Mark::Free, TermText::Shift(0), TermText::Shift(0));
-        assert_eq!(rt; action.before.as_slice(), [here].as_slice());
+        let here = TermText::Shift(0);
+        assert_eq!(rt;
+            action.before.as_slice(),
+            [is(Mark::Free, here, here)].as_slice()
+        );
         assert_eq!(rt;
             action.effects.as_slice(),
-            [AtomText { mark, ..here }].as_slice()
+            [atom(mark, here, here)].as_slice()
         );
     }
 }
 
-fn assert_lines(rt: &impl Abort, lines: &[AtomList], wanted: &[&[AtomText]]) {
+fn assert_lines(rt: &impl Abort, lines: &[TestList], wanted: &[&[TestText]]) {
     assert_eq!(rt; lines.len(), wanted.len());
-    for (line, atoms) in lines.iter().zip(wanted) {
-        assert_eq!(rt; line.as_slice(), *atoms);
+    for (line, tests) in lines.iter().zip(wanted) {
+        assert_eq!(rt; line.as_slice(), *tests);
     }
 }
 
@@ -75,14 +92,16 @@ fn reads_a_problem_with_everything(rt: HostRuntime) -> Result<(), Fail> {
 #init (black(1,1) white(2,01)
   open(12,7)) ; the corner
 #depth 31
+#first white
 #blackgoals
-(black(?x,?y) black(?x+1,?y-2) open(3,ymin))
+(black(?x,?y)NOT ( black ( ?x , 1 ) )black(?x+1,?y-2) open(3,ymin))
 ()
 #whitegoals
 (white(xmin,ymax) white(xmax,004) black(?x-0,?y+999999999))
 ";
     let problem = read_problem(rt.alloc(), text)?;
     assert_eq!(rt; (problem.width, problem.height, problem.depth), (12, 7, 31));
+    assert_eq!(rt; problem.first, Side::White);
     let cells = [
         (Mark::Black, 1, 1),
         (Mark::White, 2, 1),
@@ -93,15 +112,16 @@ fn reads_a_problem_with_everything(rt: HostRuntime) -> Result<(), Fail> {
         assert_eq!(rt; *cell, InitAtom { mark, x, y });
     }
     let first = [
-        atom(Mark::Black, TermText::Shift(0), TermText::Shift(0)),
-        atom(Mark::Black, TermText::Shift(1), TermText::Shift(-2)),
-        atom(Mark::Free, TermText::Number(3), TermText::Least),
+        is(Mark::Black, TermText::Shift(0), TermText::Shift(0)),
+        is_not(Mark::Black, TermText::Shift(0), TermText::Number(1)),
+        is(Mark::Black, TermText::Shift(1), TermText::Shift(-2)),
+        is(Mark::Free, TermText::Number(3), TermText::Least),
     ];
     assert_lines(&rt, problem.black.as_slice(), &[first.as_slice(), &[]]);
     let only = [
-        atom(Mark::White, TermText::Least, TermText::Greatest),
-        atom(Mark::White, TermText::Greatest, TermText::Number(4)),
-        atom(
+        is(Mark::White, TermText::Least, TermText::Greatest),
+        is(Mark::White, TermText::Greatest, TermText::Number(4)),
+        is(
             Mark::Black,
             TermText::Shift(0),
             TermText::Shift(999_999_999),
@@ -133,6 +153,14 @@ fn names_the_first_fault_of_a_domain(rt: HostRuntime) {
             unexpected(2, 2, 15),
         ),
         (b"#blackactions\r\r)", unexpected(1, 1, 16)),
+        (
+            b"#blackactions\n:action a :parameters (?x,?y)\n:precondition (NOT(NOT",
+            unexpected(13, 3, 20),
+        ),
+        (
+            b"#blackactions\n:action a :parameters (?x,?y)\n:precondition () :effect (NOT",
+            unexpected(14, 3, 27),
+        ),
         (b"#boardsize 3 3", unexpected(0, 1, 1)),
         (
             b"#blackactions @",
@@ -164,6 +192,19 @@ fn names_the_first_fault_of_a_problem(rt: HostRuntime) {
             unexpected(7, 2, 17),
         ),
         (b"#boardsize\r3\r3\r+", unexpected(3, 1, 16)),
+        (b"#boardsize 3 3\n#init (NOT", unexpected(5, 2, 8)),
+        (
+            b"#boardsize 3 3 #init ()\n#depth 0 #first #blackgoals",
+            unexpected(9, 2, 17),
+        ),
+        (
+            b"#boardsize 3 3 #init ()\n#depth 0 #first open",
+            unexpected(9, 2, 17),
+        ),
+        (
+            b"#boardsize 3 3 #init ()\n#depth 0\n#blackgoals (not(black(1,1)))",
+            unexpected(10, 3, 14),
+        ),
         (b"#blackactions", unexpected(0, 1, 1)),
         (
             b"#boardsize 3 0123456789",
@@ -204,7 +245,7 @@ fn fault_of_front(rt: &impl Abort, text: &[u8], tokens: &[Token], len: u32) -> R
 #[test]
 fn each_front_of_a_domain_has_its_own_fault(rt: HostRuntime) -> Result<(), Fail> {
     let text = b"#blackactions ; one\n:action a-1 :parameters (?x,?y)\r
-:precondition (open(?x+27,ymin)) :effect (black(xmax,?y-1)) #whiteactions";
+:precondition (open(?x+27,ymin) NOT(white(?x,1))) :effect (black(xmax,?y-1)) #whiteactions";
     let tokens = lex(rt.alloc(), text)?;
     for len in 0..text.len() {
         let fault = fault_of_front(&rt, text, &tokens, len as u32);
@@ -220,8 +261,8 @@ fn each_front_of_a_domain_has_its_own_fault(rt: HostRuntime) -> Result<(), Fail>
 
 #[test]
 fn each_front_of_a_problem_has_its_own_fault(rt: HostRuntime) -> Result<(), Fail> {
-    let text = b"#boardsize 14 04\n#init (black(1,12) open(2,2)) #depth 03
-#blackgoals (black(?x,?y) white(?x+1,ymax))\t() #whitegoals";
+    let text = b"#boardsize 14 04\n#init (black(1,12) open(2,2)) #depth 03 #first white
+#blackgoals (black(?x,?y) NOT (white(?x+1,ymax)))\t() #whitegoals";
     let tokens = lex(rt.alloc(), text)?;
     for len in 0..text.len() {
         let fault = fault_of_front(&rt, text, &tokens, len as u32);

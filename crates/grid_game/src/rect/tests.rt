@@ -5,6 +5,13 @@ fn atom(mark: Mark, x: Term, y: Term) -> Atom {
     Atom { mark, x, y }
 }
 
+fn is(atom: Atom) -> Test {
+    Test {
+        atom,
+        negated: false,
+    }
+}
+
 fn rect(x_low: u32, x_high: u32, y_low: u32, y_high: u32) -> Option<Rect> {
     Some(Rect {
         x_low,
@@ -20,25 +27,25 @@ fn both_lists_narrow_the_board(rt: HostRuntime) {
     let left = [atom(Mark::White, Term::Rel(-1), Term::Abs(1))];
     let above = [atom(Mark::Free, Term::Rel(0), Term::Rel(-1))];
     assert_eq!(rt; rect_of(3, 2, &[], &[]), rect(1, 3, 1, 2));
-    assert_eq!(rt; rect_of(3, 2, &right, &[]), rect(1, 2, 1, 2));
+    assert_eq!(rt; rect_of(3, 2, &right.map(is), &[]), rect(1, 2, 1, 2));
     assert_eq!(rt; rect_of(3, 2, &[], &left), rect(2, 3, 1, 2));
-    assert_eq!(rt; rect_of(3, 2, &right, &left), rect(2, 2, 1, 2));
-    assert_eq!(rt; rect_of(3, 2, &above, &left), rect(2, 3, 2, 2));
-    assert_eq!(rt; rect_of(2, 2, &left, &right), None);
+    assert_eq!(rt; rect_of(3, 2, &right.map(is), &left), rect(2, 2, 1, 2));
+    assert_eq!(rt; rect_of(3, 2, &above.map(is), &left), rect(2, 3, 2, 2));
+    assert_eq!(rt; rect_of(2, 2, &left.map(is), &right), None);
 }
 
 #[test]
 fn the_longest_shift_leaves_one_column(rt: HostRuntime) {
     for (shift, want) in [
-        (15, rect(1, 1, 1, 16)),
-        (-15, rect(16, 16, 1, 16)),
-        (16, None),
-        (-16, None),
+        (63, rect(1, 1, 1, 64)),
+        (-63, rect(64, 64, 1, 64)),
+        (64, None),
+        (-64, None),
         (i32::MAX, None),
         (i32::MIN, None),
     ] {
         let far = [atom(Mark::Free, Term::Rel(shift), Term::Rel(0))];
-        assert_eq!(rt; rect_of(16, 16, &[], &far), want, "at {shift}");
+        assert_eq!(rt; rect_of(64, 64, &[], &far), want, "at {shift}");
     }
 }
 
@@ -50,7 +57,7 @@ fn a_number_off_the_side_fits_nowhere(rt: HostRuntime) {
         (2, rect(1, 3, 1, 2)),
         (3, None),
     ] {
-        let row = [atom(Mark::Free, Term::Rel(0), Term::Abs(number))];
+        let row = [is(atom(Mark::Free, Term::Rel(0), Term::Abs(number)))];
         assert_eq!(rt; rect_of(3, 2, &row, &[]), want, "at {number}");
     }
 }

@@ -3,7 +3,9 @@ ghost use Rattle.bddl_model.specs.Check.{setup_fault};
 ghost use Rattle.bddl_model.specs.Start.{no_actions, IsStartProblem};
 
 use super::*;
-use bddl_model::{AtomList, AtomText, InitAtom, InitList, LineList, Lit, Mark, TermText, Var};
+use bddl_model::{
+    AtomText, InitAtom, InitList, LineList, Lit, Mark, Side, TermText, TestList, TestText, Var,
+};
 use std::test::Fail;
 
 // Two cells, the first one marked so, and a line that asks for a black stone there.
@@ -13,11 +15,15 @@ fn two_cells(alloc: Global, mark: Mark) -> Result<ProblemText, NoMemory>
 {
     let mut init = InitList::new(alloc);
     init.push(InitAtom { mark, x: 1, y: 1 })?;
-    let mut line = AtomList::new(alloc);
-    line.push(AtomText {
+    let mut line = TestList::new(alloc);
+    let atom = AtomText {
         mark: Mark::Black,
         x: TermText::Number(1),
         y: TermText::Number(1),
+    };
+    line.push(TestText {
+        atom,
+        negated: false,
     })?;
     let mut black = LineList::new(alloc);
     black.push(line)?;
@@ -26,6 +32,7 @@ fn two_cells(alloc: Global, mark: Mark) -> Result<ProblemText, NoMemory>
         height: 1,
         init,
         depth: 0,
+        first: Side::White,
         black,
         white: LineList::new(alloc),
     })

@@ -1,20 +1,24 @@
 // Layouts of small games, part by part.
 use super::*;
-use bddl_model::{Atom, Mark, Term};
+use bddl_model::{Atom, Mark, Term, Test};
 use grid_game::rect_of;
 use std::test::Fail;
 
 // The anchor's own cell.
-fn here(mark: Mark) -> Atom {
-    Atom {
+fn here(mark: Mark) -> Test {
+    let atom = Atom {
         mark,
         x: Term::Rel(0),
         y: Term::Rel(0),
+    };
+    Test {
+        atom,
+        negated: false,
     }
 }
 
 // Adds an action without effects, of which an anchor is to fit.
-fn add_action(game: &mut Game, side: Side, before: &[Atom]) -> Result<(), NoMemory> {
+fn add_action(game: &mut Game, side: Side, before: &[Test]) -> Result<(), NoMemory> {
     if game.actions(side) >= 8 || before.len() > 8 {
         return Err(NoMemory);
     }
@@ -25,17 +29,17 @@ fn add_action(game: &mut Game, side: Side, before: &[Atom]) -> Result<(), NoMemo
 }
 
 // Adds a goal line, of which an anchor is to fit.
-fn add_line(game: &mut Game, side: Side, atoms: &[Atom]) -> Result<(), NoMemory> {
-    if game.lines(side) >= 256 || atoms.len() > 16 {
+fn add_line(game: &mut Game, side: Side, tests: &[Test]) -> Result<(), NoMemory> {
+    if game.lines(side) >= 256 || tests.len() > 16 {
         return Err(NoMemory);
     }
-    match rect_of(game.width(), game.height(), atoms, &[]) {
-        Some(_) => game.add_line(side, atoms),
+    match rect_of(game.width(), game.height(), tests, &[]) {
+        Some(_) => game.add_line(side, tests),
         None => Err(NoMemory),
     }
 }
 
-// On 2 by 2, an action of Black and two lines of two atoms.
+// On 2 by 2, an action of Black and two lines of two tests.
 fn without_white(alloc: Global) -> Result<Game, NoMemory> {
     let mut game = Game::begin(alloc, 2, 2);
     add_action(&mut game, Side::Black, &[here(Mark::Free)])?;
@@ -60,7 +64,7 @@ fn two_by_two(alloc: Global) -> Result<Game, NoMemory> {
 }
 
 // On 3 by 2, two actions of White of up to three preconditions, and three lines of up to three
-// atoms.
+// tests.
 fn with_lines_of_white(alloc: Global) -> Result<Game, NoMemory> {
     let free = here(Mark::Free);
     let white = here(Mark::White);
@@ -223,5 +227,19 @@ fn lines_of_white_are_universal(rt: HostRuntime) -> Result<(), Fail> {
         all(29, 3),
     ];
     assert_eq!(rt; layout.blocks(alloc)?.as_slice(), blocks.as_slice());
+    Ok(())
+}
+
+#[test]
+fn white_may_begin(rt: HostRuntime) -> Result<(), Fail> {
+    let alloc = rt.alloc();
+    let layout = Layout::of(alloc, &two_by_two(alloc)?, Side::White, 2)?;
+    let plies = [white_ply(1, 3, 2), black_ply(5, 2)];
+    assert_eq!(rt; layout.plies.as_slice(), plies.as_slice());
+    let blocks = layout.blocks(alloc)?;
+    assert_eq!(rt; blocks.len(), 7);
+    assert_eq!(rt; blocks[0], exists(1, 2));
+    assert_eq!(rt; blocks[1], all(3, 2));
+    assert_eq!(rt; blocks[2], exists(5, 2));
     Ok(())
 }

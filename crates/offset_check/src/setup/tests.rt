@@ -2,7 +2,7 @@ ghost use Rattle.std.specs.Prelude.{◌≡◌, [], IfOk};
 ghost use Rattle.offset_check.specs.Checks.{AreNamed};
 
 use super::*;
-use bddl_model::{ActionText, AtomText, InitAtom, Item, Items, Mark, NoMemory, TermText};
+use bddl_model::{ActionText, AtomText, InitAtom, Item, Items, Mark, NoMemory, TermText, TestText};
 use std::test::Fail;
 
 fn here(mark: Mark) -> AtomText {
@@ -42,7 +42,10 @@ fn problem(alloc: Global, column: u32, depth: u32) -> Result<ProblemText, NoMemo
         y: 2,
     })?;
     let mut line = Items::new(alloc);
-    line.push(here(Mark::Black))?;
+    line.push(TestText {
+        atom: here(Mark::Black),
+        negated: false,
+    })?;
     let mut black = Items::new(alloc);
     black.push(line)?;
     Ok(ProblemText {
@@ -50,6 +53,7 @@ fn problem(alloc: Global, column: u32, depth: u32) -> Result<ProblemText, NoMemo
         height: 2,
         init,
         depth,
+        first: Side::White,
         black,
         white: Items::new(alloc),
     })
@@ -60,7 +64,7 @@ fn a_game_without_fault_is_a_setup(rt: HostRuntime) -> Result<(), Fail> {
     let alloc = rt.alloc();
     let setup = check(alloc, &domain(alloc)?, &problem(alloc, 3, 31)?)?;
     assert_eq!(rt; setup.depth, 31);
-    assert_eq!(rt; setup.first, Side::Black);
+    assert_eq!(rt; setup.first, Side::White);
     assert_eq!(rt; (setup.game.width(), setup.game.height()), (3, 2));
     assert_eq!(rt; (setup.board.width(), setup.board.height()), (3, 2));
     assert_eq!(rt;

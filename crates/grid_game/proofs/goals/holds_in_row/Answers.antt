@@ -10,18 +10,18 @@ overflow_add-x-end c =
     let within = rect_within c.args.board.now.width c.args.board.now.height (line_atoms c.args.line.now) c.args.rect size.width size.height c.requires.rect in
     omega arith
 
-pub all_have_marks-requires-clause-anchor : goal.all_have_marks-requires-clause-anchor
-all_have_marks-requires-clause-anchor c =
+pub all_hold-requires-clause-anchor : goal.all_hold-requires-clause-anchor
+all_hold-requires-clause-anchor c =
     let size = c.keeps_the_size.ensures in
     let within = rect_within c.args.board.now.width c.args.board.now.height (line_atoms c.args.line.now) c.args.rect size.width size.height c.requires.rect in
     let row = c.requires.row in
     (omega arith, omega arith)
 
-pub returns-then-all_have_marks : goal.returns-then-all_have_marks
-returns-then-all_have_marks c = λ g size.
+pub returns-then-all_hold : goal.returns-then-all_hold
+returns-then-all_hold c = λ g size.
     let low = c.loop-x.auto.x in
     let row = c.requires.row in
-    sym (row_holds_by_one g c.args.board.now c.args.line.now c.args.rect c.loop-x.x c.args.y size c.requires.rect (record { x_low = low; x_high = omega arith; y_low = row.0; y_high = row.1 }) (sym c.if-all_have_marks.ensures))
+    sym (row_holds_by_one g c.args.board.now c.args.line.now c.args.rect c.loop-x.x c.args.y size c.requires.rect (record { x_low = low; x_high = omega arith; y_low = row.0; y_high = row.1 }) (sym c.if-all_hold.ensures))
 
 pub returns : goal.returns
 returns c = λ g size.

@@ -2,7 +2,7 @@ use Rattle.std.proofs.Common.{◌+◌, ◌-◌, ◌≤◌, List, ◌++◌, lengt
 use Rattle.std.proofs.Math.Nat.{mul-le-mul_right}
 use Rattle.bddl_model.specs.declared.game.Move.{Move}
 use Rattle.bddl_model.specs.Game.{action_at}
-use Rattle.grid_game.specs.Listed.{marks_stand}
+use Rattle.grid_game.specs.Listed.{tests_hold}
 use Rattle.grid_game.proofs.MoveAnchors.{rect_on_board, cells_inside}
 use Rattle.grid_game.proofs.MoveLegal.{acts_in, legal_rows}
 use Rattle.grid_game.proofs.MoveRanges.{first_has_room, others_have_room}
@@ -51,7 +51,7 @@ loop-y-preserved c =
     let on = rect_on_board _ _ _ r c.action_rect-rect.ensures in
     let acts = acts_in g c.args.side c.args.action r c.requires.action c.action_rect-rect.ensures in
     let joins = row_joins g c.args.board.now c.args.side c.args.action c.loop-y.y _ r c.before-before.result.now c.loop-y.list.moves c.add_row.new.list.moves c.requires.size.0 acts (omega arith) (omega arith) c.before-before.ensures c.add_row.ensures.moves in
-    let short = row_is_short (marks_stand c.args.board.now c.before-before.result.now) c.args.action c.loop-y.y r.x_low (r.x_high + 1 - r.x_low) c.loop-y.list.moves in
+    let short = row_is_short (tests_hold c.args.board.now c.before-before.result.now) c.args.action c.loop-y.y r.x_low (r.x_high + 1 - r.x_low) c.loop-y.list.moves in
     record {
       moves = joins ∙ c.loop-y.invariant.moves;
       rest = others_have_room (length c.loop-y.list.moves) (length c.add_row.new.list.moves) (r.y_high + 1 - c.loop-y.y) (r.y_high + 1 - (c.loop-y.y + 1)) g.width c.args.list.now.room (omega arith) (omega (arith, ap length c.add_row.ensures.moves, short, on.x_low, on.x_high)) c.loop-y.invariant.rest;

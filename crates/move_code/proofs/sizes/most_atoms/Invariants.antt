@@ -1,6 +1,0 @@
-use Rattle.std.proofs.Common.{◌≡◌, max, drop}
-use Rattle.bddl_model.specs.Layout as spec
-use Rattle.move_code.proofs.sizes.most_atoms.Given as goal
-
-abbrev pub invariant-loop-number : goal.invariant-loop-number
-invariant-loop-number l = max l.most (spec.most_atoms (drop l.number l.game.white_lines)) ≡ spec.most_atoms l.game.white_lines
