@@ -1,27 +1,8 @@
-//! The program `bddl`: it compiles the files of a game to a quantified formula, and prints them.
-//!
-//! `run` is the whole program over any shelf of files and any two sinks. Read its contract first,
-//! and then `MayEnd` in `bddl_model/specs/Outcome.antt`.
+//! The program `bddl`. What it does is `run` of `bddl_requests`, over the machine's files and its standard streams.
 #![tactic(auto)]
 
-mod about;
-mod command;
-mod compile;
-mod format;
-mod game_fault;
-mod game_texts;
-mod notes;
-mod number;
-mod read;
-mod refusal;
-mod request;
-mod run;
-mod start_problem;
-#[cfg(test)]
-mod tests;
-
+use bddl_requests::run;
 use io_edge::{FileShelf, StreamSink};
-use run::run;
 use std::io::ErrorKind;
 use std::process::ExitCode;
 use std::{env, io};

@@ -72,6 +72,3 @@ pub fn tokens_are_one()
 pub fn placing_is_one()
     ensures { (bytes : List ℕ) (ts us : List Token) → AreTokens bytes ts → AreTokens bytes us → ts ≡ us }
 {}
-
-#[cfg(test)]
-mod tests;

@@ -23,26 +23,3 @@ pub fn place_of(bytes: &[u8], at: u32) -> Place
     }
     Place { line, column }
 }
-
-#[cfg(test)]
-mod tests {
-    use super::*;
-
-    #[test]
-    fn counts_line_feeds_and_the_bytes_behind_them(rt: HostRuntime) {
-        let text = b"ab\nc\r\n\nd";
-        for (at, line, column) in [
-            (0, 1, 1),
-            (1, 1, 2),
-            (2, 1, 3),
-            (3, 2, 1),
-            (5, 2, 3),
-            (6, 3, 1),
-            (7, 4, 1),
-            (8, 4, 2),
-        ] {
-            assert!(rt; at <= 8);
-            assert_eq!(rt; place_of(text, at), Place { line, column }, "at {at}");
-        }
-    }
-}

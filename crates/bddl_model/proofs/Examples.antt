@@ -39,6 +39,7 @@ use Rattle.bddl_model.specs.declared.check.CheckFault.TheVariants as fault
 use Rattle.bddl_model.specs.declared.check.Item.TheVariants as item
 use Rattle.bddl_model.specs.declared.check.Part.TheVariants as part
 use Rattle.bddl_model.specs.Check.{setup_fault}
+use Rattle.bddl_model.specs.Request.{number_in_word, numbers_in_words}
 
 -- ---- formulas
 
@@ -389,3 +390,39 @@ a_line_off_the_board = refl
 many_lines : setup_fault (blacks []) (record { width = 1; height = 1; init = []; depth = 0; first = Black; black = []; white = replicate 257 [] }) ≡ Some (fault.TooManyLines White 257)
 unfolding setup_fault
 many_lines = refl
+
+-- ---- numbers among the words of a command line
+
+the_greatest_number_has_64_bits : number_in_word (codes "18446744073709551615") ≡ Some 18446744073709551615
+unfolding digits
+the_greatest_number_has_64_bits = refl
+
+a_greater_number_is_none : number_in_word (codes "18446744073709551616") ≡ None
+unfolding digits
+a_greater_number_is_none = refl
+
+zero_is_a_number : number_in_word (codes "0") ≡ Some 0
+unfolding digits
+zero_is_a_number = refl
+
+no_digits_are_no_number : number_in_word [] ≡ None
+unfolding digits
+no_digits_are_no_number = refl
+
+a_zero_before_a_digit_is_no_number : number_in_word (codes "07") ≡ None
+unfolding digits
+a_zero_before_a_digit_is_no_number = refl
+
+a_sign_is_no_number : number_in_word (codes "+7") ≡ None
+a_sign_is_no_number = refl
+
+a_space_is_no_number : number_in_word (codes "7 ") ≡ None
+a_space_is_no_number = refl
+
+numbers_keep_their_order : numbers_in_words (codes "3" ∷ codes "10" ∷ []) ≡ Some (3 ∷ 10 ∷ [])
+unfolding digits
+numbers_keep_their_order = refl
+
+one_other_word_leaves_no_numbers : numbers_in_words (codes "3" ∷ codes "01" ∷ []) ≡ None
+unfolding digits
+one_other_word_leaves_no_numbers = refl

@@ -137,6 +137,3 @@ fn push_goal_lines(text: &mut Vec<u8>, lines: &[TestList]) -> Result<(), NoMemor
     }
     Ok(())
 }
-
-#[cfg(test)]
-mod tests;

@@ -125,6 +125,3 @@ pub fn read_problem(alloc: Global, bytes: &[u8]) -> Result<ProblemText, ReadFaul
 {
     problem_of(alloc, bytes)
 }
-
-#[cfg(test)]
-mod tests;

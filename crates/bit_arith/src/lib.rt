@@ -9,8 +9,6 @@ mod compare;
 mod gates;
 mod many;
 mod sum;
-#[cfg(test)]
-mod tests;
 
 pub use compare::{at_least, at_most, equal, equal_const};
 pub use gates::{choose, or};

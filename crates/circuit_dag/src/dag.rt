@@ -146,6 +146,3 @@ impl Dag {
         })
     }
 }
-
-#[cfg(test)]
-mod tests;

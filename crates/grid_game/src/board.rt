@@ -105,23 +105,3 @@ impl Board {
         })
     }
 }
-
-#[cfg(test)]
-mod tests {
-    use super::*;
-    use std::test::Fail;
-
-    #[test]
-    fn a_copy_is_apart(rt: HostRuntime) -> Result<(), Fail> {
-        let mut board = Board::free(rt.alloc(), 3, 2)?;
-        board.set(3, 1, Mark::Black);
-        let mut copy = board.copy()?;
-        copy.set(3, 1, Mark::White);
-        copy.set(1, 2, Mark::Black);
-        assert_eq!(rt; board.at(3, 1), Mark::Black);
-        assert_eq!(rt; board.at(1, 2), Mark::Free);
-        assert_eq!(rt; copy.at(3, 1), Mark::White);
-        assert_eq!(rt; copy.at(1, 2), Mark::Black);
-        Ok(())
-    }
-}

@@ -12,8 +12,6 @@ mod items;
 mod laws;
 mod moves;
 mod rect;
-#[cfg(test)]
-mod tests;
 mod turns;
 
 pub use bddl_model::Rect;

@@ -93,6 +93,3 @@ pub fn rect_of(width: u32, height: u32, tests: &[Test], effects: &[Atom]) -> Opt
     let of_tests = narrowed_by_tests(board, width, height, tests);
     unless_empty(narrowed_by_effects(of_tests, width, height, effects))
 }
-
-#[cfg(test)]
-mod tests;

@@ -78,6 +78,3 @@ pub fn start_form(alloc: Global, problem: &ProblemText) -> Result<Form, NoMemory
 {
     fixed_form(alloc, problem)
 }
-
-#[cfg(test)]
-mod tests;

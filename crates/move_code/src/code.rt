@@ -95,6 +95,3 @@ pub fn move_of(shape: &Shape, code: &[bool]) -> Option<Move>
     }
     spelled(shape, code)
 }
-
-#[cfg(test)]
-mod tests;

@@ -208,6 +208,3 @@ impl Layout {
         Ok(blocks)
     }
 }
-
-#[cfg(test)]
-mod tests;

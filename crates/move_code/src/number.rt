@@ -43,23 +43,3 @@ pub fn number_of(bits: &[bool]) -> u32
         }
     }
 }
-
-#[cfg(test)]
-mod tests {
-    use super::*;
-
-    #[test]
-    fn a_number_needs_the_bits_of_those_below_it(rt: HostRuntime) {
-        for (number, want) in [
-            (0, 0),
-            (1, 0),
-            (2, 1),
-            (3, 2),
-            (256, 8),
-            (257, 9),
-            (u32::MAX, 32),
-        ] {
-            assert_eq!(rt; bits(number), want);
-        }
-    }
-}

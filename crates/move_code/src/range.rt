@@ -114,6 +114,3 @@ pub fn in_range(dag: &mut Dag, game: &Game, side: Side, code: &[Wire]) -> Result
     let words = CodeWords::of(game, side, code);
     some_action(dag, game, side, words)
 }
-
-#[cfg(test)]
-mod tests;

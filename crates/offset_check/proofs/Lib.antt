@@ -5,3 +5,4 @@ pub mod CellCounts
 pub mod CellFaults
 pub mod NamedCells
 pub mod SetupFaults
+pub mod Named

@@ -56,29 +56,3 @@ pub fn add_lines(
     }
     Ok(())
 }
-
-#[cfg(test)]
-mod tests {
-    use super::*;
-    use bddl_model::{AtomText, Items, Mark, TermText};
-    use std::test::Fail;
-
-    #[test]
-    fn a_line_is_added(rt: HostRuntime) -> Result<(), Fail> {
-        let mut game = Game::begin(rt.alloc(), 3, 2);
-        let mut line = Items::new(rt.alloc());
-        let atom = AtomText {
-            mark: Mark::Black,
-            x: TermText::Greatest,
-            y: TermText::Number(2),
-        };
-        line.push(TestText {
-            atom,
-            negated: true,
-        })?;
-        let lines = [line];
-        add_lines(rt.alloc(), &mut game, Side::Black, &lines)?;
-        assert_eq!(rt; game.lines(Side::Black), 1);
-        Ok(())
-    }
-}

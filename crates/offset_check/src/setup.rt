@@ -119,6 +119,3 @@ pub fn check(alloc: Global, domain: &DomainText, problem: &ProblemText) -> Resul
         depth: problem.depth,
     })
 }
-
-#[cfg(test)]
-mod tests;

@@ -6,8 +6,6 @@
 
 mod merge;
 mod prefix;
-#[cfg(test)]
-mod tests;
 
 pub use bddl_model::{Block, Quant, Span};
 pub use merge::merged_blocks;

@@ -109,39 +109,3 @@ impl Form {
         clause_of(&self.ends, &self.literals, number as usize)
     }
 }
-
-#[cfg(test)]
-mod tests {
-    use super::*;
-    use bddl_model::{Quant, Var};
-    use std::test::Fail;
-
-    fn literal(number: u32, negated: bool) -> Lit
-        ensures { result.var.0 ≡ number }
-    {
-        Lit {
-            var: Var(number),
-            negated,
-        }
-    }
-
-    #[test]
-    fn clauses_stand_in_the_order_of_adding(rt: HostRuntime) -> Result<(), Fail> {
-        let mut prefix = Prefix::empty(rt.alloc());
-        prefix.push(Quant::All, Var(2))?;
-        prefix.push(Quant::Exists, Var(1))?;
-        let mut form = Form::begin(rt.alloc(), prefix);
-        assert_eq!(rt; form.clauses(), 0);
-        let long = [literal(1, true), literal(2, false)];
-        let short = [literal(2, true)];
-        form.add(&long)?;
-        form.add(&[])?;
-        form.add(&short)?;
-        assert_eq!(rt; form.clauses(), 3);
-        assert_eq!(rt; form.clause(0), long.as_slice());
-        assert!(rt; form.clause(1).is_empty());
-        assert_eq!(rt; form.clause(2), short.as_slice());
-        assert_eq!(rt; form.prefix().as_slice().len(), 2);
-        Ok(())
-    }
-}

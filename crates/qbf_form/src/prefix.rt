@@ -106,38 +106,3 @@ impl Prefix {
         &self.bounds
     }
 }
-
-#[cfg(test)]
-mod tests {
-    use super::*;
-    use std::test::Fail;
-
-    #[test]
-    fn a_prefix_holds_what_was_added(rt: HostRuntime) -> Result<(), Fail> {
-        let mut prefix = Prefix::empty(rt.alloc());
-        assert!(rt; !prefix.holds(Var(5)));
-        prefix.push(Quant::Exists, Var(5))?;
-        prefix.push(Quant::All, Var(2))?;
-        prefix.push(Quant::Exists, Var(9))?;
-        for number in 0..12 {
-            let bound = number == 2 || number == 5 || number == 9;
-            assert_eq!(rt; prefix.holds(Var(number)), bound, "variable {number}");
-        }
-        let bounds = [
-            Bound {
-                quant: Quant::Exists,
-                var: Var(5),
-            },
-            Bound {
-                quant: Quant::All,
-                var: Var(2),
-            },
-            Bound {
-                quant: Quant::Exists,
-                var: Var(9),
-            },
-        ];
-        assert_eq!(rt; prefix.as_slice(), bounds.as_slice());
-        Ok(())
-    }
-}

@@ -50,6 +50,3 @@ impl Form {
         Ok(longest(self.prefix().as_slice(), &units, &gates))
     }
 }
-
-#[cfg(test)]
-mod tests;

@@ -4,8 +4,6 @@
 //! refuses. Read `qtext` in `bddl_model/specs/FormulaText.antt` first.
 #![tactic(auto)]
 
-#[cfg(test)]
-mod tests;
 mod write;
 
 pub use write::write_qdimacs;

@@ -5,7 +5,5 @@
 #![tactic(auto)]
 
 mod clauses;
-#[cfg(test)]
-mod tests;
 
 pub use clauses::to_clauses;

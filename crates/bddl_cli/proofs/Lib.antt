@@ -1,9 +1,0 @@
-mod Named
-mod Done
-mod Files
-mod Results
-mod Stopping
-mod Games
-mod Built
-mod Numbers
-mod Answered

@@ -1,0 +1,24 @@
+use Rattle.std.proofs.Common.{map}
+use Rattle.bddl_model.specs.declared.command.Command.TheVariants.{Compile, FormatDomain, FormatProblem}
+use Rattle.bddl_model.specs.Request.{limits_of}
+use Rattle.bddl_requests.proofs.Answered.{one_file, two_files, written_by}
+use Rattle.bddl_requests.proofs.Files.{within_length}
+use Rattle.bddl_requests.proofs.program.answer.Goals as goal
+
+pub returns-in-Compile-clause-written : goal.returns-in-Compile-clause-written
+returns-in-Compile-clause-written g c =
+    let two = rw c.in-Compile.is at (within_length (limits_of c.args.request.now.command) (map (λ w. w.items) c.args.contents.now) c.requires.within) in
+    let files = two_files (λ w. w.items) c.args.contents.now c.index-contents-0.result c.index-contents-1.result c.deref.result.now c.deref-in-Compile.result.now two c.index-contents-0.is c.index-contents-1.is c.deref.ensures.value c.deref-in-Compile.ensures.value in
+    written_by Compile _ _ _ _ _ _ _ c.in-Compile.is files (rw c.in-Compile.is at c.requires.numbers) c.compile.ensures.written
+
+pub returns-in-FormatDomain-clause-written : goal.returns-in-FormatDomain-clause-written
+returns-in-FormatDomain-clause-written g c =
+    let one = rw c.in-FormatDomain.is at (within_length (limits_of c.args.request.now.command) (map (λ w. w.items) c.args.contents.now) c.requires.within) in
+    let files = one_file (λ w. w.items) c.args.contents.now c.index-contents-0-in-FormatDomain.result c.deref-in-FormatDomain.result.now one c.index-contents-0-in-FormatDomain.is c.deref-in-FormatDomain.ensures.value in
+    written_by FormatDomain _ _ _ _ _ _ _ c.in-FormatDomain.is files (rw c.in-FormatDomain.is at c.requires.numbers) c.format_domain.ensures.written
+
+pub returns-in-FormatProblem-clause-written : goal.returns-in-FormatProblem-clause-written
+returns-in-FormatProblem-clause-written g c =
+    let one = rw c.in-FormatProblem.is at (within_length (limits_of c.args.request.now.command) (map (λ w. w.items) c.args.contents.now) c.requires.within) in
+    let files = one_file (λ w. w.items) c.args.contents.now c.index-contents-0-in-FormatProblem.result c.deref-in-FormatProblem.result.now one c.index-contents-0-in-FormatProblem.is c.deref-in-FormatProblem.ensures.value in
+    written_by FormatProblem _ _ _ _ _ _ _ c.in-FormatProblem.is files (rw c.in-FormatProblem.is at c.requires.numbers) c.format_problem.ensures.written

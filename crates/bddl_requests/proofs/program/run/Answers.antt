@@ -1,0 +1,92 @@
+use Rattle.std.proofs.Common.{◌∙◌, [], Err, ap, arith, false, inl, inr, refl, true}
+use Rattle.bddl_requests.specs.Ends.{closed, refusal_told}
+use Rattle.bddl_requests.specs.declared.refusal.Close.{Close}
+use Rattle.bddl_requests.specs.declared.refusal.Stop.TheVariants.{Refused}
+use Rattle.bddl_requests.proofs.Answered.{carried_out, close_is_no_refusal, cut_answers, nothing_is_written, refusal_is_no_result, refusal_status, status_of_read, status_of_words, told_answers, told_or_cut, words_refused}
+use Rattle.bddl_requests.proofs.program.run.Goals as goal
+
+-- ---- carried out
+
+pub returns-in-Ok-clause-ends : goal.returns-in-Ok-clause-ends
+returns-in-Ok-clause-ends g c =
+    let written = c.in-Ok.ensures.written true (λ e. absurd cc) in
+    told_answers _ (closed c.in-Ok.close written.0) _ _ _ _ _ written.1 written.2 (rw c.status.ensures.status at c.status.ensures.few) (c.tell.ensures.told (closed c.in-Ok.close written.0) c.status.ensures.status c.note.ensures)
+
+pub returns-in-Ok-clause-calm : goal.returns-in-Ok-clause-calm
+returns-in-Ok-clause-calm g c calm =
+    let written = c.in-Ok.ensures.written false (λ e. calm) in
+    told_answers _ (closed c.in-Ok.close written.0) _ _ _ _ _ written.1 written.2 (rw c.status.ensures.status at c.status.ensures.few) (c.tell.ensures.told (closed c.in-Ok.close written.0) c.status.ensures.status c.note.ensures)
+
+pub returns-in-Ok-clause-carried_out : goal.returns-in-Ok-clause-carried_out
+returns-in-Ok-clause-carried_out g c zero =
+    let written = c.in-Ok.ensures.written true (λ e. absurd cc) in
+    carried_out (g.S.Shelf.held c.args.shelf.now) _ c.in-Ok.close _ _ _ _ _ written (c.tell.ensures.told (closed c.in-Ok.close written.0) c.status.ensures.status c.note.ensures) zero
+
+pub returns-in-Ok-clause-words : goal.returns-in-Ok-clause-words
+returns-in-Ok-clause-words g c one =
+    close_is_no_refusal c.in-Ok.close [] _ _ _ 1 (omega arith) (omega arith) (c.tell.ensures.told (closed c.in-Ok.close []) c.status.ensures.status c.note.ensures) one
+
+pub returns-in-Ok-clause-refused : goal.returns-in-Ok-clause-refused
+returns-in-Ok-clause-refused g c (inl one) = close_is_no_refusal c.in-Ok.close [] _ _ _ 1 (omega arith) (omega arith) (c.tell.ensures.told (closed c.in-Ok.close []) c.status.ensures.status c.note.ensures) one
+returns-in-Ok-clause-refused g c (inr (inl two)) = close_is_no_refusal c.in-Ok.close [] _ _ _ 2 (omega arith) (omega arith) (c.tell.ensures.told (closed c.in-Ok.close []) c.status.ensures.status c.note.ensures) two
+returns-in-Ok-clause-refused g c (inr (inr three)) = close_is_no_refusal c.in-Ok.close [] _ _ _ 3 (omega arith) (omega arith) (c.tell.ensures.told (closed c.in-Ok.close []) c.status.ensures.status c.note.ensures) three
+
+pub returns-in-Ok-clause-read_fault : goal.returns-in-Ok-clause-read_fault
+returns-in-Ok-clause-read_fault g c three =
+    close_is_no_refusal c.in-Ok.close [] _ _ _ 3 (omega arith) (omega arith) (c.tell.ensures.told (closed c.in-Ok.close []) c.status.ensures.status c.note.ensures) three
+
+-- ---- refused
+
+pub returns-in-Err-Refused-clause-ends : goal.returns-in-Err-Refused-clause-ends
+returns-in-Err-Refused-clause-ends g c =
+    let written = rw c.in-Err-Refused.field-0-is at (c.in-Err-Refused.ensures.written true (λ e. absurd cc)) in
+    let told = c.tell-in-Err-Refused.ensures.told (refusal_told c.in-Err-Refused.refusal) c.status_of.ensures.status c.note_of.ensures in
+    told_answers _ (refusal_told c.in-Err-Refused.refusal) _ _ _ _ _ written.1 (nothing_is_written c.in-Err-Refused.refusal _ _ written.0) (rw c.status_of.ensures.status at c.status_of.ensures.few) told
+
+pub returns-in-Err-Refused-clause-calm : goal.returns-in-Err-Refused-clause-calm
+returns-in-Err-Refused-clause-calm g c calm =
+    let written = rw c.in-Err-Refused.field-0-is at (c.in-Err-Refused.ensures.written false (λ e. calm)) in
+    let told = c.tell-in-Err-Refused.ensures.told (refusal_told c.in-Err-Refused.refusal) c.status_of.ensures.status c.note_of.ensures in
+    told_answers _ (refusal_told c.in-Err-Refused.refusal) _ _ _ _ _ written.1 (nothing_is_written c.in-Err-Refused.refusal _ _ written.0) (rw c.status_of.ensures.status at c.status_of.ensures.few) told
+
+pub returns-in-Err-Refused-clause-carried_out : goal.returns-in-Err-Refused-clause-carried_out
+returns-in-Err-Refused-clause-carried_out g c zero =
+    refusal_is_no_result c.in-Err-Refused.refusal _ _ _ (c.tell-in-Err-Refused.ensures.told (refusal_told c.in-Err-Refused.refusal) c.status_of.ensures.status c.note_of.ensures) zero
+
+pub returns-in-Err-Refused-clause-words : goal.returns-in-Err-Refused-clause-words
+returns-in-Err-Refused-clause-words g c one =
+    let told = c.tell-in-Err-Refused.ensures.told (refusal_told c.in-Err-Refused.refusal) c.status_of.ensures.status c.note_of.ensures in
+    let none = status_of_words c.in-Err-Refused.refusal (refusal_status c.in-Err-Refused.refusal _ _ _ 1 (omega arith) told one) in
+    c.in-Err-Refused.ensures.words (ap Err (c.in-Err-Refused.field-0-is ∙ ap Refused none))
+
+pub returns-in-Err-Refused-clause-no_request : goal.returns-in-Err-Refused-clause-no_request
+returns-in-Err-Refused-clause-no_request g c none =
+    let told = c.tell-in-Err-Refused.ensures.told (refusal_told c.in-Err-Refused.refusal) c.status_of.ensures.status c.note_of.ensures in
+    told_or_cut (refusal_told c.in-Err-Refused.refusal) _ _ _ 1 told (words_refused (Err c.in-Err-Refused.field-0) _ _ refl c.in-Err-Refused.field-0-is (c.in-Err-Refused.ensures.no_request none))
+
+pub returns-in-Err-Refused-clause-refused : goal.returns-in-Err-Refused-clause-refused
+returns-in-Err-Refused-clause-refused g c status = (rw c.in-Err-Refused.field-0-is at (c.in-Err-Refused.ensures.written true (λ e. absurd cc))).0
+
+pub returns-in-Err-Refused-clause-read_fault : goal.returns-in-Err-Refused-clause-read_fault
+returns-in-Err-Refused-clause-read_fault g c three =
+    let told = c.tell-in-Err-Refused.ensures.told (refusal_told c.in-Err-Refused.refusal) c.status_of.ensures.status c.note_of.ensures in
+    (status_of_read Close c.in-Err-Refused.refusal _ _ (rw c.in-Err-Refused.field-0-is at c.in-Err-Refused.ensures.shelf_cause)).0 (refusal_status c.in-Err-Refused.refusal _ _ _ 3 (omega arith) told three)
+
+pub returns-in-Err-Refused-clause-read_rose : goal.returns-in-Err-Refused-clause-read_rose
+returns-in-Err-Refused-clause-read_rose g c rose =
+    let told = c.tell-in-Err-Refused.ensures.told (refusal_told c.in-Err-Refused.refusal) c.status_of.ensures.status c.note_of.ensures in
+    told_or_cut (refusal_told c.in-Err-Refused.refusal) _ _ _ 3 told ((status_of_read Close c.in-Err-Refused.refusal _ _ (rw c.in-Err-Refused.field-0-is at c.in-Err-Refused.ensures.shelf_cause)).1 rose)
+
+-- ---- cut short
+
+pub returns-in-Err-WriteFault-clause-ends : goal.returns-in-Err-WriteFault-clause-ends
+returns-in-Err-WriteFault-clause-ends g c = cut_answers _ _ _ _ 4 (inl refl) (rw c.in-Err-WriteFault.field-0-is at (c.in-Err-WriteFault.ensures.written true (λ e. absurd cc)))
+
+pub returns-in-Err-WriteFault-clause-calm : goal.returns-in-Err-WriteFault-clause-calm
+returns-in-Err-WriteFault-clause-calm g c calm = cut_answers _ _ _ _ 4 (inl refl) (rw c.in-Err-WriteFault.field-0-is at (c.in-Err-WriteFault.ensures.written false (λ e. calm)))
+
+pub returns-in-Err-NoMemory-clause-ends : goal.returns-in-Err-NoMemory-clause-ends
+returns-in-Err-NoMemory-clause-ends g c = cut_answers _ _ _ _ 5 (inr refl) (rw c.in-Err-NoMemory.field-0-is at (c.in-Err-NoMemory.ensures.written true (λ e. absurd cc)))
+
+pub returns-in-Err-NoMemory-clause-calm : goal.returns-in-Err-NoMemory-clause-calm
+returns-in-Err-NoMemory-clause-calm g c calm = cut_answers _ _ _ _ 5 (inr refl) (rw c.in-Err-NoMemory.field-0-is at (c.in-Err-NoMemory.ensures.written false (λ e. calm)))

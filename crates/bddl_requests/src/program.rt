@@ -1,0 +1,121 @@
+// The top call.
+ghost use Rattle.std.specs.Prelude.{◌≡◌, ◌==◌, ◌<◌, ◌⊎◌, Bool, List, ℕ, None, true, false, length, map, IfOk, string_bytes};
+ghost use Rattle.bddl_model.specs.Outcome.{ContentEnds, End, IsResult, MayEnd};
+ghost use Rattle.bddl_model.specs.Request as spec;
+ghost use Rattle.bddl_model.specs.Request.{request_of};
+ghost use Rattle.io_edge.specs.Outside.{Counts, Rose, with_bytes};
+ghost use Rattle.bddl_requests.specs.Ends.{Answers, AreWithin, Tells, Writes, content_told, is_read_fault, is_write_fault, refusal_told};
+
+use crate::about::{help, version};
+use crate::command::limits_of;
+use crate::compile::compile;
+use crate::format::{format_domain, format_problem};
+use crate::notes::{note_of, status_of};
+use crate::read::read_files;
+use crate::refusal::{Close, Content, Refusal, Stop};
+use crate::request::{Request, read_request};
+use bddl_model::Command;
+use io_edge::{Shelf, Sink, SinkEnd, put_text};
+use std::alloc::{AllocError, Global};
+
+/// Carries out the request of the words, and answers the exit status: 0 where it was carried out,
+/// 1 where the words are no request, 2 where a file is refused, 3 where a named file could not be
+/// read, 4 where a write failed, 5 where memory ran out.
+pub fn run<S: Shelf, K: Sink, N: Sink>(
+    alloc: Global,
+    words: &[Vec<u8>],
+    shelf: &mut S,
+    out: &mut K,
+    note: &mut N,
+) -> u8
+    // The call ends as the words and the files say, or is cut short. Where no files are told, there are some of which it is so.
+    ensures ends { Answers (MayEnd true (S.held shelf.old) (request_of (map (λ w. w.items) words.now)))
+        (K.written out.old) (K.written out.new) (N.written note.old) (N.written note.new) result }
+
+    // From a calm shelf each file that is held can be read.
+    ensures calm { S.calm shelf.old → Answers (MayEnd false (S.held shelf.old) (request_of (map (λ w. w.items) words.now)))
+        (K.written out.old) (K.written out.new) (N.written note.old) (N.written note.new) result }
+
+    // With 0 the whole of out is the result of what stands in the files, and nothing was noted. That of `compile` is the text of a
+    // form that encodes the game of the two files, and this form alone is read from the text: its value is that of winning.
+    ensures carried_out { result ≡ 0 → (text : List ℕ) × IsResult (S.held shelf.old) (request_of (map (λ w. w.items) words.now)) text
+        × (K.written out.new ≡ with_bytes (K.written out.old) text) × (N.written note.new ≡ N.written note.old) }
+
+    // 1 is for words that are no request.
+    ensures words { result ≡ 1 → request_of (map (λ w. w.items) words.now) ≡ None }
+    ensures no_request { request_of (map (λ w. w.items) words.now) ≡ None → (result ≡ 1) ⊎ (result ≡ 4) ⊎ (result ≡ 5) }
+
+    // After 1, 2 and 3 nothing was written to out.
+    ensures refused { (result ≡ 1) ⊎ (result ≡ 2) ⊎ (result ≡ 3) → K.written out.new ≡ K.written out.old }
+
+    // 3 and 4 are for faults of the outside.
+    ensures read_fault { result ≡ 3 → Rose (S.faults shelf.old) (S.faults shelf.new) }
+    ensures read_rose { S.faults shelf.old < S.faults shelf.new → (result ≡ 3) ⊎ (result ≡ 4) ⊎ (result ≡ 5) }
+    ensures write_fault { result ≡ 4 → Rose (K.faults out.old) (K.faults out.new) ⊎ Rose (N.faults note.old) (N.faults note.new) }
+    ensures write_rose { (K.faults out.old < K.faults out.new) ⊎ (N.faults note.old < N.faults note.new) → result ≡ 4 }
+{
+    match carry_out(alloc, words, shelf, out) {
+        Ok(close) => tell(close.status(), close.note(alloc), note),
+        Err(Stop::Refused(refusal)) => tell(status_of(refusal), note_of(alloc, refusal), note),
+        Err(Stop::WriteFault) => 4,
+        Err(Stop::NoMemory) => 5,
+    }
+}
+
+fn carry_out<S: Shelf, K: Sink>(
+    alloc: Global,
+    words: &[Vec<u8>],
+    shelf: &mut S,
+    out: &mut K,
+) -> Result<Close, Stop<Refusal>>
+    ensures written { (faulty : Bool) → (faulty ≡ false → S.calm shelf.old)
+        → Writes refusal_told (MayEnd faulty (S.held shelf.old) (request_of (map (λ w. w.items) words.now))) (K.written out.old) (K.written out.new) result }
+    ensures words { result ≡ Err (Stop.Refused Refusal.NoRequest) → request_of (map (λ w. w.items) words.now) ≡ None }
+    ensures no_request { request_of (map (λ w. w.items) words.now) ≡ None → (result ≡ Err (Stop.Refused Refusal.NoRequest)) ⊎ (result ≡ Err Stop.NoMemory) }
+    ensures shelf_cause { Counts (S.faults shelf.old) (S.faults shelf.new) (is_read_fault result) }
+    ensures out_cause { Counts (K.faults out.old) (K.faults out.new) (is_write_fault result) }
+{
+    let request = read_request(alloc, words)?;
+    let limits = limits_of(request.command);
+    let contents = read_files(alloc, shelf, limits, request.files)?;
+    Ok(answer(alloc, &request, &contents, out)?)
+}
+
+// Carries out a request by the contents of its files.
+fn answer<K: Sink>(
+    alloc: Global,
+    request: &Request,
+    contents: &[Vec<u8>],
+    out: &mut K,
+) -> Result<Close, Stop<Content>>
+    requires within { AreWithin (spec.limits_of request.now.command) (map (λ w. w.items) contents.now) }
+    requires numbers { length request.now.numbers.items ≡ spec.numbers_of request.now.command }
+    ensures written { Writes content_told (ContentEnds request.now.command (map (λ w. w.items) contents.now) request.now.numbers.items)
+        (K.written out.old) (K.written out.new) result }
+    ensures cause { Counts (K.faults out.old) (K.faults out.new) (is_write_fault result) }
+{
+    match request.command {
+        Command::Compile => compile(alloc, &contents[0], &contents[1], out),
+        Command::FormatDomain => format_domain(alloc, &contents[0], out),
+        Command::FormatProblem => format_problem(alloc, &contents[0], out),
+        Command::Help => help(out),
+        Command::Version => version(out),
+    }
+}
+
+// Notes a line, which may be empty, and answers the status.
+fn tell<N: Sink>(status: u8, line: Result<String, AllocError>, note: &mut N) -> u8
+    requires { status < 4 }
+    ensures told { (end : End) → status ≡ end.status → IfOk line (λ text. string_bytes text ≡ end.note)
+        → Tells end (N.written note.old) (N.written note.new) result }
+    ensures cause { Counts (N.faults note.old) (N.faults note.new) (result == 4) }
+{
+    let Ok(line) = line else {
+        return 5;
+    };
+    match put_text(note, line.as_bytes()) {
+        Ok(()) => status,
+        Err(SinkEnd::Failed) => 4,
+        Err(SinkEnd::NoMemory) => 5,
+    }
+}

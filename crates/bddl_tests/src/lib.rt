@@ -1,0 +1,17 @@
+//! Tests of the requests as a whole, over files in memory.
+#![tactic(auto)]
+
+#[cfg(test)]
+mod about;
+#[cfg(test)]
+mod answers;
+#[cfg(test)]
+mod checks;
+#[cfg(test)]
+mod evaluator;
+#[cfg(test)]
+mod formatting;
+#[cfg(test)]
+mod requests;
+#[cfg(test)]
+mod start_positions;

@@ -1,5 +1,0 @@
-use Rattle.std.proofs.Common.{refl, arith}
-use Rattle.prenexer.proofs.tests.other_blocks_stay_in_order.Goals as goal
-
-pub merged_blocks-requires : goal.merged_blocks-requires
-merged_blocks-requires g c = (3, omega arith, rw (c.all.ensures, c.exists.ensures, c.all-2.ensures) refl)
