@@ -20,7 +20,6 @@ checked: bddl
 	done
 
 bddl: crates.txt $(wildcard crates/*/src/*.rt crates/*/src/*/*.rt crates/*/specs/*.antt)
-	rt all check --jobs $$(nproc)
 	cd crates/bddl_cli && rt run -- compile ../../$(EXAMPLE)/domain.bddl ../../$(EXAMPLE)/problem.bddl
 	cp crates/bddl_cli/out/bddl_cli $@
 

@@ -4,7 +4,7 @@ ghost use Rattle.bddl_model.specs.declared.check.CheckFault.TheVariants.{NoMemor
 use bddl_model::CheckFault;
 
 /// A fault of a game. It isn't want of memory.
-#[derive(Clone, Copy, Debug, PartialEq, Eq)]
+#[derive(Clone, Copy)]
 pub struct GameFault {
     pub fault: CheckFault,
     ghost is_found: { fault ≢ out_of_memory },

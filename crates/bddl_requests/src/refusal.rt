@@ -10,7 +10,7 @@ use io_edge::SinkEnd;
 use std::alloc::{AllocError, AllocFailed, Global};
 
 /// How a request ended that was carried out.
-#[derive(Clone, Copy, Debug, PartialEq, Eq)]
+#[derive(Clone, Copy)]
 pub enum Close {
     Done,
 }
@@ -37,14 +37,14 @@ impl Close {
 }
 
 /// The two texts of a game.
-#[derive(Clone, Copy, Debug, PartialEq, Eq)]
+#[derive(Clone, Copy)]
 pub enum GameText {
     Domain,
     Problem,
 }
 
 /// What is wrong with what stands in the files of a request.
-#[derive(Clone, Copy, Debug, PartialEq, Eq)]
+#[derive(Clone, Copy)]
 pub enum Content {
     /// The text is none of its grammar, as this place shows.
     Text {
@@ -57,7 +57,7 @@ pub enum Content {
 }
 
 /// What is wrong with a file, whatever stands in it.
-#[derive(Clone, Copy, Debug, PartialEq, Eq)]
+#[derive(Clone, Copy)]
 pub enum FileEnd {
     ReadFault,
     /// It has more bytes than this.
@@ -65,7 +65,7 @@ pub enum FileEnd {
 }
 
 /// Why a request is not carried out, as its note tells.
-#[derive(Clone, Copy, Debug, PartialEq, Eq)]
+#[derive(Clone, Copy)]
 pub enum Refusal {
     NoRequest,
     /// The number of the word that names the file, the request's own word being the first.
@@ -74,7 +74,7 @@ pub enum Refusal {
 }
 
 /// Why a request was not carried out to its end.
-#[derive(Clone, Copy, Debug, PartialEq, Eq)]
+#[derive(Clone, Copy)]
 pub enum Stop<R> {
     Refused(R),
     WriteFault,

@@ -79,6 +79,32 @@ fn two_cells_have_three_blocks(rt: HostRuntime) -> Result<(), Fail> {
     assert_values(&rt, rt.alloc(), &[(problem, true)])
 }
 
+// At the cell of a stone that is missing the line fails: the place has to be the other cell.
+#[test]
+fn the_output_is_true_or_the_place(rt: HostRuntime) -> Result<(), Fail> {
+    let cases: [(&str, &[u8]); 3] = [
+        (
+            "black(1,1)",
+            b"p cnf 4 2\ne 1 2 0\na 3 0\ne 4 0\n4 0\n4 0\n",
+        ),
+        (
+            "white(1,1)",
+            b"p cnf 4 2\ne 1 2 0\na 3 0\ne 4 0\n4 0\n3 0\n",
+        ),
+        ("", b"p cnf 4 2\ne 1 2 0\na 3 0\ne 4 0\n4 0\n3 0\n"),
+    ];
+    for (init, text) in &cases {
+        let problem = format!(in rt.alloc();
+            "#boardsize 2 1 #init ({init}) #depth 0 #first white #blackgoals (black(1,1)) #whitegoals"
+        )?;
+        assert_eq!(rt;
+            text_of(&rt, rt.alloc(), problem.as_bytes())?.as_slice(),
+            *text
+        );
+    }
+    Ok(())
+}
+
 #[test]
 fn lines_over_several_cells(rt: HostRuntime) -> Result<(), Fail> {
     let cases = [
