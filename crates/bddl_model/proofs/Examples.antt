@@ -12,12 +12,15 @@ use Rattle.bddl_model.specs.declared.game.Side.TheVariants.{Black, White}
 use Rattle.bddl_model.specs.declared.game.Term.TheVariants.{Rel, Abs}
 use Rattle.bddl_model.specs.declared.game.Atom.{Atom}
 use Rattle.bddl_model.specs.declared.game.Test.{Test}
+use Rattle.bddl_model.specs.declared.game.Move.{Move}
 use Rattle.bddl_model.specs.Truth.{form_value}
 use Rattle.bddl_model.specs.FormulaText.{qtext}
 use Rattle.bddl_model.specs.Game.{Action, Game}
 use Rattle.bddl_model.specs.Board.{Board}
 use Rattle.bddl_model.specs.Rectangle.{rect_of}
 use Rattle.bddl_model.specs.Moves.{legal, moves}
+use Rattle.bddl_model.specs.Conditions.{Cell}
+use Rattle.bddl_model.specs.OneCell.{rewritten, stepped}
 use Rattle.bddl_model.specs.Goal.{goal}
 use Rattle.bddl_model.specs.Win.{win}
 use Rattle.bddl_model.specs.Bits.{bits}
@@ -390,6 +393,43 @@ a_line_off_the_board = refl
 many_lines : setup_fault (blacks []) (record { width = 1; height = 1; init = []; depth = 0; first = Black; black = []; white = replicate 257 [] }) ≡ Some (fault.TooManyLines White 257)
 unfolding setup_fault
 many_lines = refl
+
+-- ---- one cell
+
+abbrev cell : ℕ → ℕ → Cell
+cell x y = record { x = x; y = y }
+
+-- a stone of Black goes to the next column
+abbrev sliding : List Atom
+sliding = here marks.Free ∷ shifted marks.Black (pos 1) (pos 0) ∷ []
+
+a_slide_leaves_its_cell_open : rewritten sliding (cell 1 2) (cell 1 2) marks.Black ≡ marks.Free
+a_slide_leaves_its_cell_open = refl
+
+a_slide_takes_the_next_cell : rewritten sliding (cell 1 2) (cell 2 2) marks.White ≡ marks.Black
+a_slide_takes_the_next_cell = refl
+
+a_slide_keeps_other_cells : map (λ place. rewritten sliding (cell 1 2) place marks.White) (cell 1 1 ∷ cell 2 1 ∷ cell 3 2 ∷ []) ≡ marks.White ∷ marks.White ∷ marks.White ∷ []
+a_slide_keeps_other_cells = refl
+
+-- on a board of two columns the place is off the board
+a_slide_reaches_over_the_edge : rewritten sliding (cell 2 2) (cell 3 2) marks.Free ≡ marks.Black
+a_slide_reaches_over_the_edge = refl
+
+the_later_of_two_effects_stays : rewritten (here marks.Black ∷ here marks.White ∷ []) (cell 1 1) (cell 1 1) marks.Free ≡ marks.White
+the_later_of_two_effects_stays = refl
+
+abbrev occupied_at : ℕ → ℕ → Move
+occupied_at action x = record { action = action; x = x; y = 1 }
+
+a_move_marks_its_cell : stepped (occupying 2 2 [] []) White (occupied_at 0 2) (cell 2 1) marks.Free ≡ marks.White
+a_move_marks_its_cell = refl
+
+a_move_keeps_the_other_cells : map (λ place. stepped (occupying 2 2 [] []) White (occupied_at 0 2) place marks.Free) (cell 1 1 ∷ cell 1 2 ∷ cell 2 2 ∷ []) ≡ marks.Free ∷ marks.Free ∷ marks.Free ∷ []
+a_move_keeps_the_other_cells = refl
+
+a_move_of_no_action_keeps_all : stepped (occupying 2 2 [] []) Black (occupied_at 1 2) (cell 2 1) marks.Free ≡ marks.Free
+a_move_of_no_action_keeps_all = refl
 
 -- ---- numbers among the words of a command line
 

@@ -15,6 +15,7 @@ pub mod CircuitForms
 pub mod Growth
 pub mod WireWords
 pub mod WireItems
+pub mod GrowthSums
 pub mod Anchors
 pub mod Covering
 pub mod Codes

@@ -38,6 +38,7 @@ pub mod Size
 pub mod Bounds
 pub mod TrailDigits
 pub mod Conditions
+pub mod OneCell
 pub mod Exact
 pub mod Encoding
 pub mod Canonical

@@ -1,4 +1,5 @@
 pub mod Comparing
 pub mod Adding
 pub mod Turns
+pub mod Differences
 pub mod ShortWords

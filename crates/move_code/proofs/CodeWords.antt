@@ -15,18 +15,9 @@ use Rattle.bddl_model.specs.Layout.{anchor_bits}
 use Rattle.bddl_model.specs.Codes.{Shape, shape_of, code_length, spelled_move}
 use Rattle.bddl_model.proofs.Bits.{bits_most}
 use Rattle.bddl_model.proofs.Codes.{some_actions}
+use Rattle.bddl_model.proofs.WireWords.{word_front, word_behind}
 use Rattle.move_code.specs.declared.range.CodeWords.{CodeWords}
 use Rattle.move_code.specs.CodeWords.{AreCodeWires, AreWordsOf, spelled, action_gates}
-
-wires_front : (c : Circuit) (n : ℕ) (ws : List Wire) → AreWires c ws → AreWires c (take n ws)
-wires_front c zero ws h = tt
-wires_front c (suc n) [] h = tt
-wires_front c (suc n) (w ∷ ws) h = (h.0, wires_front c n ws h.1)
-
-wires_behind : (c : Circuit) (n : ℕ) (ws : List Wire) → AreWires c ws → AreWires c (drop n ws)
-wires_behind c zero ws h = h
-wires_behind c (suc n) [] h = tt
-wires_behind c (suc n) (w ∷ ws) h = wires_behind c n ws h.1
 
 few_actions : (g : Game) (side : Side) → IsGame g → length (actions g side) ≤ 8
 few_actions g Black is = is.black.few_actions
@@ -65,11 +56,11 @@ module _ (g : Game) (side : Side) (is : IsGame g) (some : 1 ≤ length (actions 
       let counts = lengths in
       let columns = bits_most g.width 6 (omega (arith, is.width)) in
       let rows = bits_most g.height 6 (omega (arith, is.height)) in
-      let anchor = wires_behind c (bits s.actions) code are in
+      let anchor = word_behind c (bits s.actions) code are in
       record {
-        action = subst (AreWires c) (sym parts.action) (wires_front c (bits s.actions) code are);
-        x = subst (AreWires c) (sym parts.x) (wires_front c (bits s.width) (drop (bits s.actions) code) anchor);
-        y = subst (AreWires c) (sym parts.y) (wires_behind c (bits s.width) (drop (bits s.actions) code) anchor);
+        action = subst (AreWires c) (sym parts.action) (word_front c (bits s.actions) code are);
+        x = subst (AreWires c) (sym parts.x) (word_front c (bits s.width) (drop (bits s.actions) code) anchor);
+        y = subst (AreWires c) (sym parts.y) (word_behind c (bits s.width) (drop (bits s.actions) code) anchor);
         short = (omega arith, omega arith);
       }
 
