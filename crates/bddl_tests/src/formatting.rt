@@ -80,54 +80,56 @@ fn what_a_problem_says_is_not_checked(rt: HostRuntime) -> Result<(), Fail> {
     assert_written(&rt, rt.alloc(), b"fmt-problem", problem, problem)
 }
 
+// A request, the bytes of its file, and the note.
+const FAULTS: [(&[u8], &[u8], &[u8]); 11] = [
+    (b"fmt-domain", b"", b"domain:1:1: text ends early\n"),
+    (b"fmt-domain", SIX_LINES, b"domain:1:1: unexpected word\n"),
+    (
+        b"fmt-domain",
+        b"#blackactions\n?",
+        b"domain:2:1: bad byte\n",
+    ),
+    (b"fmt-problem", OCCUPYING, b"problem:1:1: unexpected word\n"),
+    (
+        b"fmt-problem",
+        b"#boardsize 1 1234567890",
+        b"problem:1:14: number too long\n",
+    ),
+    (
+        b"fmt-problem",
+        b"#boardsize 1 1 #init () #depth 1 #first #blackgoals",
+        b"problem:1:41: unexpected word\n",
+    ),
+    (
+        b"fmt-problem",
+        b"#boardsize 1 1 #init () #depth 1 #first open",
+        b"problem:1:41: unexpected word\n",
+    ),
+    (
+        b"fmt-problem",
+        b"#boardsize 1 1 #init (NOT(open(1,1)))",
+        b"problem:1:23: unexpected word\n",
+    ),
+    (
+        b"fmt-domain",
+        b"#blackactions :action a :parameters (?x,?y) :precondition (NOT(NOT(open(1,1))))",
+        b"domain:1:64: unexpected word\n",
+    ),
+    (
+        b"fmt-domain",
+        b"#blackactions :action a :parameters (?x,?y) :precondition (not(open(1,1)))",
+        b"domain:1:60: unexpected word\n",
+    ),
+    (
+        b"fmt-domain",
+        b"#blackactions :action a :parameters (?x,?y) :precondition () :effect (NOT(open(1,1)))",
+        b"domain:1:71: unexpected word\n",
+    ),
+];
+
 #[test]
 fn faults_are_told_with_their_places(rt: HostRuntime) -> Result<(), Fail> {
-    let cases: [(&[u8], &[u8], &[u8]); 11] = [
-        (b"fmt-domain", b"", b"domain:1:1: text ends early\n"),
-        (b"fmt-domain", SIX_LINES, b"domain:1:1: unexpected word\n"),
-        (
-            b"fmt-domain",
-            b"#blackactions\n?",
-            b"domain:2:1: bad byte\n",
-        ),
-        (b"fmt-problem", OCCUPYING, b"problem:1:1: unexpected word\n"),
-        (
-            b"fmt-problem",
-            b"#boardsize 1 1234567890",
-            b"problem:1:14: number too long\n",
-        ),
-        (
-            b"fmt-problem",
-            b"#boardsize 1 1 #init () #depth 1 #first #blackgoals",
-            b"problem:1:41: unexpected word\n",
-        ),
-        (
-            b"fmt-problem",
-            b"#boardsize 1 1 #init () #depth 1 #first open",
-            b"problem:1:41: unexpected word\n",
-        ),
-        (
-            b"fmt-problem",
-            b"#boardsize 1 1 #init (NOT(open(1,1)))",
-            b"problem:1:23: unexpected word\n",
-        ),
-        (
-            b"fmt-domain",
-            b"#blackactions :action a :parameters (?x,?y) :precondition (NOT(NOT(open(1,1))))",
-            b"domain:1:64: unexpected word\n",
-        ),
-        (
-            b"fmt-domain",
-            b"#blackactions :action a :parameters (?x,?y) :precondition (not(open(1,1)))",
-            b"domain:1:60: unexpected word\n",
-        ),
-        (
-            b"fmt-domain",
-            b"#blackactions :action a :parameters (?x,?y) :precondition () :effect (NOT(open(1,1)))",
-            b"domain:1:71: unexpected word\n",
-        ),
-    ];
-    for (word, bytes, note) in &cases {
+    for (word, bytes, note) in &FAULTS {
         assert_request_refused(&rt, rt.alloc(), &[word, b"d"], bytes, b"", note)?;
     }
     Ok(())

@@ -123,7 +123,7 @@ fn assert_faults(rt: &impl Abort, alloc: Global, grammar: Grammar, cases: &[(&[u
 
 #[test]
 fn names_the_first_fault_of_a_domain(rt: HostRuntime) {
-    let cases: [(&[u8], ReadFault); 13] = [
+    let cases: [(&[u8], ReadFault); 10] = [
         (b"", ends_early(1, 1)),
         (
             b"#blackactions :action a :parameters (?x, ?y) :precondition () :effect (",
@@ -152,6 +152,13 @@ fn names_the_first_fault_of_a_domain(rt: HostRuntime) {
             unexpected(14, 3, 27),
         ),
         (b"#boardsize 3 3", unexpected(0, 1, 1)),
+    ];
+    assert_faults(&rt, rt.alloc(), Grammar::Domain, &cases);
+}
+
+#[test]
+fn faults_of_tokens_come_first(rt: HostRuntime) {
+    let cases: [(&[u8], ReadFault); 3] = [
         (
             b"#blackactions @",
             ReadFault::Lex(LexFault::BadByte { at: 14 }),
