@@ -150,7 +150,7 @@ fn moves_of(alloc: Global, game: &Game, board: &Board) -> Result<MoveList, NoMem
     Ok(list)
 }
 
-// These are the moves of Black, whatever the list held before.
+// These are the moves of Black, whatever the list held before, and no other one is legal.
 fn assert_moves(
     rt: &impl Abort,
     alloc: Global,
@@ -161,6 +161,10 @@ fn assert_moves(
     let Setup { game, board, .. } = setup_of(alloc, domain, problem)?;
     assert!(rt; is_board_of(&game, &board));
     assert_eq!(rt; moves_of(alloc, &game, &board)?.as_slice(), moves);
+    for number in 0..game.width().wrapping_mul(game.height()) {
+        let mv = at(number % game.width() + 1, number / game.width() + 1);
+        assert_eq!(rt; legal(&game, &board, Side::Black, mv), moves.contains(&mv));
+    }
     Ok(())
 }
 
