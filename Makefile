@@ -1,5 +1,5 @@
-# make run: proves and builds the program, shows that the examples are canonical and have no fault, and compiles one. make test: the gate.
-EXAMPLE := examples/standing-row
+# make run: proves and builds the program, shows that the examples are canonical and compiled, and compiles one. make test: the gate.
+EXAMPLE := examples/two-by-two
 
 .PHONY: run canonical checked test clean
 
@@ -12,11 +12,9 @@ canonical: bddl
 	  ./bddl fmt-problem $$game/problem.bddl | cmp - $$game/problem.bddl || exit 1; \
 	done
 
-# A game without a fault is compiled, or is not built.
 checked: bddl
 	for game in examples/*; do \
-	  note=$$(./bddl compile $$game/domain.bddl $$game/problem.bddl 2>&1 > /dev/null); \
-	  case "$$note" in '' | 'domain: not built' | 'problem: not built') ;; *) echo "$$game: $$note"; exit 1 ;; esac; \
+	  ./bddl compile $$game/domain.bddl $$game/problem.bddl > /dev/null || exit 1; \
 	done
 
 bddl: crates.txt $(wildcard crates/*/src/*.rt crates/*/src/*/*.rt crates/*/specs/*.antt)

@@ -33,6 +33,7 @@ pub mod TrailDigits
 pub mod GateValues
 pub mod Tails
 pub mod CircuitTails
+pub mod SharedGates
 pub mod GreatestSizes
 pub mod GreatestInputs
 mod WorkedTails

@@ -1,11 +1,14 @@
-// Laws of circuits: what their clauses say, and that growth keeps words of wires.
-ghost use Rattle.std.specs.Prelude.{◌≡◌, ◌↔◌, ℕ, true, List, ◌++◌};
+// Laws of circuits: what their clauses say, that growth keeps words of wires, and that shared gates stand apart.
+ghost use Rattle.std.specs.Prelude.{◌≡◌, ◌≢◌, ◌↔◌, ℕ, true, List, ◌++◌, AllPairs};
+ghost use Rattle.std.specs.List.{range_with_len};
 ghost use Rattle.bddl_model.specs.declared.formula.Bound.{Bound};
 ghost use Rattle.bddl_model.specs.declared.circuit.Wire.{Wire};
 ghost use Rattle.bddl_model.specs.Truth.{Assignment, value, literal_true, clauses_true};
+ghost use Rattle.bddl_model.specs.Forms.{prefix_variables};
 ghost use Rattle.bddl_model.specs.Circuit.{Circuit, IsCircuit, IsWire, holds, literal_of, circuit_clauses};
 ghost use Rattle.bddl_model.specs.CircuitValues.{SameInputs, SameGates, gate_bounds};
 ghost use Rattle.bddl_model.specs.Growth.{Grows};
+ghost use Rattle.bddl_model.specs.Tail.{GatesApart};
 ghost use Rattle.bddl_model.specs.Words.{AreWires, word_bits, word_value};
 
 /// A law: the clauses of a circuit say that its output holds, and what each of its gates does.
@@ -29,4 +32,12 @@ pub fn growth_keeps_words()
     ensures number { (most : ℕ) (old new : Circuit) (ws : List Wire) (a : Assignment)
         → Grows most old new → AreWires old ws
         → word_value new ws a ≡ word_value old ws a }
+{}
+
+/// A law: where a circuit has no gate twice, the gates of its form stand apart: no two variables of the
+/// tail have both the clause that they hold where the same two earlier literals do.
+pub fn shared_gates_are_apart()
+    ensures { (prefix : List Bound) (c : Circuit) (out : Wire) → IsCircuit c → AllPairs (λ g h. g ≢ h) c.gates
+        → prefix_variables prefix ≡ range_with_len 1 c.inputs
+        → GatesApart (record { prefix = prefix ++ gate_bounds c; clauses = circuit_clauses c out }) }
 {}

@@ -20,7 +20,7 @@ pub use bounds::{
     paid_steps_are_below_the_bound, push_keeps_steps_within, sizes_have_limits,
     tail_is_the_longest, worked_bounds,
 };
-pub use circuits::{circuit_clauses_hold, growth_keeps_words};
+pub use circuits::{circuit_clauses_hold, growth_keeps_words, shared_gates_are_apart};
 pub use constraints::{
     clause_decides, cube_decides, cubes_are_dual, first_block_has_values, first_cube_is_fine,
     original_clause_is_fine, reduced_clause_is_fine, reduced_cube_is_fine, resolved_clause_is_fine,

@@ -23,7 +23,6 @@ pub mod Moves
 pub mod Goal
 pub mod Win
 pub mod Setup
-pub mod Start
 pub mod Check
 pub mod Bits
 pub mod Layout

@@ -29,12 +29,6 @@ read_fault word = codes "word " ++ (decimal word ++ codes ": read fault\n")
 abbrev pub too_long : ℕ → ℕ → List ℕ
 too_long word limit = codes "word " ++ (decimal word ++ (codes ": longer than " ++ (decimal limit ++ codes " bytes\n")))
 
-abbrev pub domain_not_built : List ℕ
-domain_not_built = codes "domain: not built\n"
-
-abbrev pub problem_not_built : List ℕ
-problem_not_built = codes "problem: not built\n"
-
 -- ---- texts that can't be read
 
 abbrev pub lexical_words : LexFault → List ℕ

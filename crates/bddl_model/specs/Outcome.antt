@@ -19,7 +19,6 @@ use Rattle.bddl_model.specs.FormulaText.{qtext}
 use Rattle.bddl_model.specs.Qdimacs.{HasOneForm}
 use Rattle.bddl_model.specs.Setup.{Setup}
 use Rattle.bddl_model.specs.Check.{checked_setup}
-use Rattle.bddl_model.specs.Start.{IsStartProblem, no_actions}
 use Rattle.bddl_model.specs.Encodes.{Encodes}
 use Rattle.bddl_model.specs.Request.{Request, limits_of, files_of}
 
@@ -70,22 +69,19 @@ GameThen d p next end = DomainThen d (λ dom. ProblemThen p (λ prob. CheckThen 
 abbrev pub States : List ℕ → List ℕ → DomainText → ProblemText → Result Setup CheckFault → Type 0
 States d p dom prob checked = Reads domain d dom × Reads problem p prob × (checked_setup dom prob ≡ checked)
 
--- The text is that of a form that encodes the setup which two texts state; it is the one form that is read from the text. Their game
--- is built: the domain has no actions, and the problem asks for the start board alone.
+-- The text is that of a form that encodes the setup which two texts state; it is the one form that is read from the text.
 pub record Compiles (d p : List ℕ) (s : Setup) (text : List ℕ) : Type 0 where
+  pub dom : DomainText
   pub prob : ProblemText
-  pub states : States d p no_actions prob (Ok s)
-  pub built : IsStartProblem prob
+  pub states : States d p dom prob (Ok s)
   pub form : Formula
   pub encodes : Encodes form s
   pub written : text ≡ qtext form
   pub read : HasOneForm text form
 
--- What compiling the setup of two texts may end as: that the domain has actions is told, or else that more is asked for than the start board, or a text is written.
-pub data CompileEnds (d p : List ℕ) (s : Setup) (end : End) : Type 0 where
-  domain_not_built : (dom : DomainText) → Reads domain d dom → (dom ≡ no_actions → ⊥) → end ≡ refused 2 notes.domain_not_built → CompileEnds d p s end
-  problem_not_built : (prob : ProblemText) → Reads domain d no_actions → Reads problem p prob → (IsStartProblem prob → ⊥) → end ≡ refused 2 notes.problem_not_built → CompileEnds d p s end
-  compiles : (text : List ℕ) → Compiles d p s text → Says text end → CompileEnds d p s end
+-- what compiling the setup of two texts may end as
+abbrev pub CompileEnds : List ℕ → List ℕ → Setup → End → Type 0
+CompileEnds d p s end = (text : List ℕ) × Compiles d p s text × Says text end
 
 -- ---- the table of ends
 

@@ -1,5 +1,5 @@
 -- The tail of a form: the variables at the end of its prefix that gates define.
-use Rattle.std.specs.Prelude.{ℕ, Bool, true, false, not, ◌&&◌, ◌==◌, List, [], ◌∷◌, ◌++◌, length, if◌then◌else◌}
+use Rattle.std.specs.Prelude.{◌≡◌, ◌≢◌, ℕ, ◌-◌, Bool, true, false, not, ◌&&◌, ◌==◌, List, [], ◌∷◌, ◌++◌, length, drop, if◌then◌else◌}
 use Rattle.std.specs.List.{list_any, list_all}
 use Rattle.bddl_model.specs.declared.formula.Quant.TheVariants.{Exists}
 use Rattle.bddl_model.specs.declared.formula.Bound.{Bound}
@@ -7,7 +7,7 @@ use Rattle.bddl_model.specs.declared.formula.Lit.{Lit}
 use Rattle.bddl_model.specs.Truth.{Formula, negation}
 use Rattle.bddl_model.specs.FormulaText.{same_quant}
 use Rattle.bddl_model.specs.Circuit.{positive}
-use Rattle.bddl_model.specs.Forms.{has_literal}
+use Rattle.bddl_model.specs.Forms.{has_number, prefix_variables, has_literal}
 
 -- ---- clauses that a form has
 
@@ -55,3 +55,27 @@ tail_from cs before (b ∷ rest) = if is_tail cs before (b ∷ rest) then length
 
 unfoldable pub tail_length : Formula → ℕ
 tail_length f = tail_from f.clauses [] f.prefix
+
+-- ---- gates that stand apart
+
+-- the first number is among these, and the second stands behind it
+abbrev pub stands_before : List ℕ → ℕ → ℕ → Bool
+stands_before [] v w = false
+stands_before (u ∷ us) v w = if u == v then has_number us w else stands_before us v w
+
+-- the variable is one of the tail's
+abbrev pub in_tail : Formula → ℕ → Bool
+in_tail f v = has_number (drop (length f.prefix - tail_length f) (prefix_variables f.prefix)) v
+
+-- the variable is one of the tail's, and stands behind those of both literals
+abbrev pub IsBehind : Formula → ℕ → Lit → Lit → Type 0
+IsBehind f g a b =
+    (in_tail f g ≡ true)
+    × (stands_before (prefix_variables f.prefix) a.var.0 g ≡ true)
+    × (stands_before (prefix_variables f.prefix) b.var.0 g ≡ true)
+
+-- the form doesn't have, for two variables of the tail and two literals before both, both clauses that the variable holds where the literals do
+unfoldable pub GatesApart : Formula → Type 0
+GatesApart f = (g h : ℕ) (a b : Lit) → g ≢ h → IsBehind f g a b → IsBehind f h a b
+    → has_clause f.clauses (positive g ∷ negation a ∷ negation b ∷ []) ≡ true
+    → has_clause f.clauses (positive h ∷ negation a ∷ negation b ∷ []) ≡ false

@@ -14,7 +14,6 @@ use Rattle.bddl_requests.specs.declared.refusal.Close.TheVariants as close
 use Rattle.bddl_requests.specs.declared.refusal.Content.{Content}
 use Rattle.bddl_requests.specs.declared.refusal.Content.TheVariants as content
 use Rattle.bddl_requests.specs.declared.refusal.FileEnd.TheVariants as file_end
-use Rattle.bddl_requests.specs.declared.refusal.GameText.TheVariants as game_text
 use Rattle.bddl_requests.specs.declared.refusal.Refusal.{Refusal}
 use Rattle.bddl_requests.specs.declared.refusal.Refusal.TheVariants as refusal
 use Rattle.bddl_requests.specs.declared.refusal.Stop.{Stop}
@@ -134,8 +133,6 @@ refusal_writes_nothing (refusal.File word file_end.ReadFault) = (refl, λ e. abs
 refusal_writes_nothing (refusal.File word (file_end.TooLong most)) = (refl, λ e. absurd (omega arith))
 refusal_writes_nothing (refusal.Content (content.Text text place f)) = (refl, λ e. absurd (omega arith))
 refusal_writes_nothing (refusal.Content (content.Check f)) = (refl, λ e. absurd (omega arith))
-refusal_writes_nothing (refusal.Content (content.NotBuilt game_text.Domain)) = (refl, λ e. absurd (omega arith))
-refusal_writes_nothing (refusal.Content (content.NotBuilt game_text.Problem)) = (refl, λ e. absurd (omega arith))
 
 pub nothing_is_written : (r : Refusal) (old new : Option (List ℕ)) → new ≡ old → new ≡ with_bytes old (refusal_told r).out
 nothing_is_written r old new same = same ∙ sym (with_bytes_none old) ∙ ap (with_bytes old) (sym (refusal_writes_nothing r).0)
@@ -146,8 +143,6 @@ status_of_words (refusal.File word file_end.ReadFault) e = absurd (omega arith)
 status_of_words (refusal.File word (file_end.TooLong most)) e = absurd (omega arith)
 status_of_words (refusal.Content (content.Text text place f)) e = absurd (omega arith)
 status_of_words (refusal.Content (content.Check f)) e = absurd (omega arith)
-status_of_words (refusal.Content (content.NotBuilt game_text.Domain)) e = absurd (omega arith)
-status_of_words (refusal.Content (content.NotBuilt game_text.Problem)) e = absurd (omega arith)
 
 pub status_of_read : (T : Type 0) (r : Refusal) (before after : ℕ) → Counts before after (is_read_fault {T = T} (Err (stop.Refused r))) → ((refusal_told r).status ≡ 3 → Rose before after) × (before < after → (refusal_told r).status ≡ 3)
 status_of_read T refusal.NoRequest before after h = ((λ e. absurd (omega arith)), λ lt. absurd (omega arith))
@@ -155,8 +150,6 @@ status_of_read T (refusal.File word file_end.ReadFault) before after h = ((λ e.
 status_of_read T (refusal.File word (file_end.TooLong most)) before after h = ((λ e. absurd (omega arith)), λ lt. absurd (omega arith))
 status_of_read T (refusal.Content (content.Text text place f)) before after h = ((λ e. absurd (omega arith)), λ lt. absurd (omega arith))
 status_of_read T (refusal.Content (content.Check f)) before after h = ((λ e. absurd (omega arith)), λ lt. absurd (omega arith))
-status_of_read T (refusal.Content (content.NotBuilt game_text.Domain)) before after h = ((λ e. absurd (omega arith)), λ lt. absurd (omega arith))
-status_of_read T (refusal.Content (content.NotBuilt game_text.Problem)) before after h = ((λ e. absurd (omega arith)), λ lt. absurd (omega arith))
 
 -- the refusal of words that are no request
 pub words_refused : (result : Result Close (Stop Refusal)) (s : Stop Refusal) (r : Refusal) → result ≡ Err s → s ≡ stop.Refused r → (result ≡ Err (stop.Refused refusal.NoRequest)) ⊎ (result ≡ Err stop.NoMemory) → (refusal_told r).status ≡ 1

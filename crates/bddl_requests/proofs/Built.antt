@@ -1,54 +1,37 @@
 -- What is compiled of the game that two texts state.
-use Rattle.std.proofs.Common.{ℕ, ◌≡◌, ◌<◌, Bool, true, false, Option, None, Some, Result, Ok, Err, List, length, refl, sym, subst}
-use Rattle.std.specs.Prelude.{◌↔◌, IsTrue}
+use Rattle.std.proofs.Common.{ℕ, ◌<◌, Ok, Err, Option, List, length, inl, inr, refl}
 use Rattle.bddl_model.specs.declared.texts.DomainText.{DomainText}
 use Rattle.bddl_model.specs.declared.texts.ProblemText.{ProblemText}
-use Rattle.bddl_model.specs.declared.check.CheckFault.{CheckFault}
 use Rattle.bddl_model.specs.Truth.{Formula}
 use Rattle.bddl_model.specs.Forms.{IsForm}
 use Rattle.bddl_model.specs.FormulaText.{qtext}
 use Rattle.bddl_model.specs.Qdimacs.{HasOneForm}
-use Rattle.bddl_model.specs.Check.{setup_fault, setup_unless, checked_setup}
 use Rattle.bddl_model.specs.Encodes.{Encodes}
-use Rattle.bddl_model.specs.Notes as notes
-use Rattle.bddl_model.specs.Setup.{Setup, setup_of}
-use Rattle.bddl_model.specs.Start.{IsStartProblem, no_actions}
-use Rattle.bddl_model.specs.Outcome.{End, done, refused, CompileEnds, GameThen, States, compiles, domain_not_built, problem_not_built}
+use Rattle.bddl_model.specs.Setup.{Setup}
+use Rattle.bddl_model.specs.Outcome.{done, CompileEnds, GameThen, States}
+use Rattle.io_edge.specs.declared.sink.SinkEnd.{SinkEnd}
+use Rattle.strategy.specs.Written.{WritesForm}
+use Rattle.bddl_requests.specs.Ends.{Writes, content_told}
+use Rattle.bddl_requests.specs.Stops.{stop_of_sink}
+use Rattle.bddl_requests.specs.declared.refusal.Close.TheVariants as close
 use Rattle.bddl_requests.proofs.Games.{game_goes_on}
+use Rattle.bddl_requests.proofs.Stopping.{stops_cut, text_is_cut, text_is_written}
 
--- a setup is stated only where there is no fault
-no_fault : (o : Option CheckFault) (s t : Setup) → setup_unless o s ≡ Ok t → (o ≡ None) × (t ≡ s)
-no_fault None s t e = (refl, cc)
-no_fault (Some f) s t e = absurd cc
+-- each text of a form is read as that form
+abbrev pub AreRead : Type 0
+AreRead = (form : Formula) → IsForm form → length form.clauses < 1000000000 → HasOneForm (qtext form) form
 
-module _ (d p : List ℕ) (dom : DomainText) (prob : ProblemText) (s : Setup) (states : States d p dom prob (Ok s)) where
-  goes_on : (end : End) → CompileEnds d p s end → GameThen d p (CompileEnds d p) end
-  goes_on end h = game_goes_on d p dom prob s (CompileEnds d p) end states h
+module _ (d p : List ℕ) (dom : DomainText) (prob : ProblemText) (s : Setup) (states : States d p dom prob (Ok s)) (read : AreRead) where
+  form_is_an_end : (form : Formula) → Encodes form s → GameThen d p (CompileEnds d p) (done (qtext form))
+  form_is_an_end form encodes = game_goes_on d p dom prob s (CompileEnds d p) _ states (
+    qtext form,
+    record { dom = dom; prob = prob; states = states; form = form; encodes = encodes; written = refl; read = read form encodes.proper encodes.few },
+    refl,
+  )
 
-  pub has_actions : (b : Bool) → b ≡ false → IsTrue b ↔ (dom ≡ no_actions) → GameThen d p (CompileEnds d p) (refused 2 notes.domain_not_built)
-  has_actions b not h = goes_on _ (domain_not_built dom states.0 (λ e. let holds = h.1 e in absurd cc) refl)
+  pub form_is_written : (old new : Option (List ℕ)) (u : Unit {0}) → WritesForm s old new (Ok u) → Writes content_told (GameThen d p (CompileEnds d p)) old new (Ok close.Done)
+  form_is_written old new u h = text_is_written content_told (GameThen d p (CompileEnds d p)) (qtext h.0) (form_is_an_end h.0 h.1) old new h.2
 
-  -- where the domain has no actions
-  module _ (b : Bool) (holds : b ≡ true) (h : IsTrue b ↔ (dom ≡ no_actions)) where
-    without_actions : States d p no_actions prob (Ok s)
-    without_actions = subst (λ x. States d p x prob (Ok s)) (h.0 holds) states
-
-    pub asks_for_more : (c : Bool) → c ≡ false → IsTrue c ↔ IsStartProblem prob → GameThen d p (CompileEnds d p) (refused 2 notes.problem_not_built)
-    asks_for_more c not k = goes_on _ (problem_not_built prob without_actions.0 states.1 (λ e. let start = k.1 e in absurd cc) refl)
-
-    stated : (setup_fault no_actions prob ≡ None) × (s ≡ setup_of no_actions prob)
-    stated = no_fault (setup_fault no_actions prob) (setup_of no_actions prob) s without_actions.2
-
-    pub passes : setup_fault no_actions prob ≡ None
-    passes = stated.0
-
-    pub form_is_written : (c : Bool) → c ≡ true → IsTrue c ↔ IsStartProblem prob → (form : Formula) → Encodes form (setup_of no_actions prob) → HasOneForm (qtext form) form → GameThen d p (CompileEnds d p) (done (qtext form))
-    form_is_written c start k form encodes read = goes_on _ (compiles (qtext form) (record {
-      prob = prob;
-      states = without_actions;
-      built = k.0 start;
-      form = form;
-      encodes = subst (Encodes form) (sym stated.1) encodes;
-      written = refl;
-      read = read;
-    }) refl)
+  pub form_is_cut : (old new : Option (List ℕ)) (end : SinkEnd) → WritesForm s old new (Err end) → Writes content_told (GameThen d p (CompileEnds d p)) old new (Err (stop_of_sink end))
+  form_is_cut old new end (inl same) = stops_cut content_told (GameThen d p (CompileEnds d p)) old new end same
+  form_is_cut old new end (inr (form, encodes, front)) = text_is_cut content_told (GameThen d p (CompileEnds d p)) (qtext form) (form_is_an_end form encodes) old new end front

@@ -1,5 +1,5 @@
 -- Files that are read in the order of their words, each up to one byte past its limit.
-use Rattle.std.proofs.Common.{ℕ, suc, ◌≡◌, ◌+◌, ◌<◌, ◌≤◌, Bool, true, false, List, [], ◌∷◌, ◌++◌, length, map, take, drop, Option, None, Some, inl, inr, refl, sym, ap, ap₂, subst, subst₂, ◌∙◌, arith, get_or, length-append, length-take, take-append-drop}
+use Rattle.std.proofs.Common.{ℕ, suc, ◌≡◌, ◌+◌, ◌<◌, Bool, true, false, List, [], ◌∷◌, ◌++◌, length, map, take, drop, Option, None, Some, inl, inr, refl, sym, ap, ap₂, subst, subst₂, ◌∙◌, arith, get_or, length-append, length-take, take-append-drop}
 use Rattle.std.specs.Option.{option_map}
 use Rattle.std.specs.FinMap.{get}
 use Rattle.std.proofs.lemmas.List.{take_more, drop_more, length_push, map-append, map_more}

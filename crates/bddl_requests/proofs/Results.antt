@@ -1,11 +1,11 @@
 -- What a request that ends with status 0 has written.
-use Rattle.std.proofs.Common.{ℕ, ◌≡◌, true, List, [], ◌∷◌, map, Option, None, Some, inl, inr, refl, sym, ap, subst, ◌∙◌}
+use Rattle.std.proofs.Common.{ℕ, ◌≡◌, true, List, [], ◌∷◌, Option, None, Some, inl, inr, refl, sym, ap, subst}
 use Rattle.bddl_model.specs.declared.command.Command.{Command}
 use Rattle.bddl_model.specs.declared.command.Command.TheVariants.{Compile, FormatDomain, FormatProblem, Help, Version}
 use Rattle.bddl_model.specs.Files.{Files}
 use Rattle.bddl_model.specs.Request.{Request, limits_of}
 use Rattle.bddl_model.specs.Setup.{Setup}
-use Rattle.bddl_model.specs.Outcome.{End, done, Compiles, CompileEnds, domain_not_built, problem_not_built, compiles, ContentEnds, GameThen, Finds, IsResult, MayEnd, Results}
+use Rattle.bddl_model.specs.Outcome.{End, done, Compiles, CompileEnds, ContentEnds, GameThen, Finds, IsResult, MayEnd, Results}
 use Rattle.bddl_requests.proofs.Done.{not_refused}
 use Rattle.bddl_requests.proofs.Files.{files_were_read}
 
@@ -13,9 +13,7 @@ out_is : (a b : List ℕ) → done a ≡ done b → a ≡ b
 out_is a b e = ap (λ (x : End). x.out) e
 
 compiled : (d p : List ℕ) (s : Setup) (text : List ℕ) → CompileEnds d p s (done text) → Compiles d p s text
-compiled d p s text (domain_not_built dom r h e) = absurd (not_refused text 2 _ refl e)
-compiled d p s text (problem_not_built prob r q h e) = absurd (not_refused text 2 _ refl e)
-compiled d p s text (compiles other c e) = subst (Compiles d p s) (sym (out_is text other e)) c
+compiled d p s text (other, c, e) = subst (Compiles d p s) (sym (out_is text other e)) c
 
 of_game : (d p : List ℕ) (text : List ℕ) → GameThen d p (CompileEnds d p) (done text) → (s : Setup) × Compiles d p s text
 of_game d p text (inl f) = absurd (not_refused text 2 _ refl f.2)

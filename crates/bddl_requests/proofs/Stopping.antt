@@ -32,6 +32,11 @@ module _ {R : Type 0} (told : R → End) (ends : End → Type 0) (text : List �
   text_is_cut sink.Failed w = inr (done text, out, w)
   text_is_cut sink.NoMemory w = inr (done text, out, w)
 
+-- nothing was written
+pub stops_cut : {R : Type 0} (told : R → End) (ends : End → Type 0) (old new : Option (List ℕ)) (end : SinkEnd) → new ≡ old → Writes told ends old new (Err (stop_of_sink end))
+stops_cut told ends old new sink.Failed same = inl same
+stops_cut told ends old new sink.NoMemory same = inl same
+
 -- a text that goes on with nothing stops in any case
 pub text_then : {A : Type 0} (grammar : List Lexeme → A → Type 0) (note : List ℕ → ReadFault → List ℕ) (bytes : List ℕ) (next : A → End → Type 0) (end : End) → TextThen grammar note bytes Nothing end → TextThen grammar note bytes next end
 text_then grammar note bytes next end (inl h) = inl h

@@ -2,11 +2,9 @@
 use Rattle.std.specs.Prelude.{ℕ, Bool, true, false, ◌≡◌, ◌≢◌, ◌≤◌, ◌⊎◌, List, [], ◌∷◌, length, map, Option, None, Some, Result, Ok, Err, codes}
 use Rattle.std.specs.FinMap.{get}
 use Rattle.bddl_model.specs.declared.tokens.LexFault.TheVariants as lex
-use Rattle.bddl_model.specs.declared.texts.Place.{Place}
 use Rattle.bddl_model.specs.declared.fault.ReadFault.{ReadFault}
 use Rattle.bddl_model.specs.declared.fault.ReadFault.TheVariants as fault
 use Rattle.bddl_model.specs.Notes as notes
-use Rattle.bddl_model.specs.Reading.{place_at}
 use Rattle.bddl_model.specs.Files.{Files}
 use Rattle.bddl_model.specs.Outcome.{End, refused, FileThen, FilesThen, IsWithin}
 use Rattle.io_edge.specs.Outside.{with_bytes, WithFront}
@@ -39,14 +37,9 @@ abbrev pub text_name : GameText → List ℕ
 text_name game_text.Domain = codes "domain"
 text_name game_text.Problem = codes "problem"
 
-abbrev pub not_built : GameText → List ℕ
-not_built game_text.Domain = notes.domain_not_built
-not_built game_text.Problem = notes.problem_not_built
-
 abbrev pub content_told : Content → End
 content_told (content.Text text place f) = refused 2 (notes.place_note (text_name text) place (notes.fault_words f))
 content_told (content.Check f) = refused 2 (notes.check_note f.fault)
-content_told (content.NotBuilt text) = refused 2 (not_built text)
 
 abbrev pub refusal_told : Refusal → End
 refusal_told refusal.NoRequest = refused 1 notes.no_such_request

@@ -5,13 +5,11 @@ ghost use Rattle.io_edge.specs.Outside.{Counts};
 ghost use Rattle.bddl_requests.specs.Ends.{Writes, content_told, is_write_fault};
 
 use crate::game_texts::read_game;
-use crate::refusal::{Close, Content, GameText, Stop};
-use crate::start_problem::{has_no_actions, is_start_problem};
+use crate::refusal::{Close, Content, Stop};
 use bddl_laws::text_is_read;
 use io_edge::Sink;
-use lifted_encode::start_form;
-use qdimacs_io::write_qdimacs;
 use std::alloc::Global;
+use strategy::compile_to;
 
 /// Compiles the game of two texts, and writes the formula.
 pub fn compile<K: Sink>(
@@ -26,15 +24,9 @@ pub fn compile<K: Sink>(
         (K.written out.old) (K.written out.new) result }
     ensures cause { Counts (K.faults out.old) (K.faults out.new) (is_write_fault result) }
 {
-    let game = read_game(alloc, domain, problem)?;
-    if !has_no_actions(&game.domain) {
-        return Err(Stop::Refused(Content::NotBuilt(GameText::Domain)));
-    }
-    if !is_start_problem(&game.problem) {
-        return Err(Stop::Refused(Content::NotBuilt(GameText::Problem)));
-    }
-    let form = start_form(alloc, &game.problem)?;
+    let setup = read_game(alloc, domain, problem)?;
     text_is_read();
-    write_qdimacs(&form, out)?;
+    let (first, depth) = (setup.first, setup.depth);
+    compile_to(alloc, &setup.game, &setup.board, first, depth, out)?;
     Ok(Close::Done)
 }

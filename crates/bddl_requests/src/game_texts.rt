@@ -1,5 +1,7 @@
 // The game that two texts state, or what is wrong with them.
 ghost use Rattle.std.specs.Prelude.{◌≡◌, ◌≤◌, length, Ok, IfOk, IfErr, IsTrue};
+ghost use Rattle.bddl_model.specs.declared.texts.DomainText.{DomainText as DomainTree};
+ghost use Rattle.bddl_model.specs.declared.texts.ProblemText.{ProblemText as ProblemTree};
 ghost use Rattle.bddl_model.specs.Canonical.{domain_can_be_spelled, problem_can_be_spelled};
 ghost use Rattle.bddl_model.specs.Grammar.{domain, problem};
 ghost use Rattle.bddl_model.specs.Outcome.{DomainThen, ProblemThen, GameThen, States};
@@ -13,29 +15,16 @@ use bddl_reader::{read_domain, read_problem};
 use offset_check::{Setup, check};
 use std::alloc::Global;
 
-/// The trees of two texts, and the setup that they state.
-#[derive(Drop)]
-pub struct Game {
-    pub domain: DomainText,
-    pub problem: ProblemText,
-    pub setup: Setup,
-}
-
-/// The game that two texts state.
-pub fn read_game(alloc: Global, domain: &[u8], problem: &[u8]) -> Result<Game, Stop<Content>>
+/// The setup that two texts state.
+pub fn read_game(alloc: Global, domain: &[u8], problem: &[u8]) -> Result<Setup, Stop<Content>>
     requires domain_short { length domain.now ≤ 1048576 }
     requires problem_short { length problem.now ≤ 1048576 }
-    ensures found { IfOk result (λ g. States domain.now problem.now g.domain g.problem (Ok g.setup)) }
+    ensures found { IfOk result (λ s. (dom : DomainTree) × (prob : ProblemTree) × States domain.now problem.now dom prob (Ok s)) }
     ensures stop { IfErr result (StopsAt content_told (GameThen domain.now problem.now Nothing)) }
 {
     let domain = domain_tree(alloc, domain)?;
     let problem = problem_tree(alloc, problem)?;
-    let setup = check(alloc, &domain, &problem)?;
-    Ok(Game {
-        domain,
-        problem,
-        setup,
-    })
+    Ok(check(alloc, &domain, &problem)?)
 }
 
 /// The tree of a domain.

@@ -16,6 +16,5 @@ mod program;
 mod read;
 mod refusal;
 mod request;
-mod start_problem;
 
 pub use program::run;

@@ -52,8 +52,6 @@ fn content_text(alloc: Global, content: Content) -> Result<String, AllocError>
             place_text(alloc, text, place, fault_words(fault))
         }
         Content::Check(fault) => check_text(alloc, fault),
-        Content::NotBuilt(GameText::Domain) => format!(in alloc; "domain: not built\n"),
-        Content::NotBuilt(GameText::Problem) => format!(in alloc; "problem: not built\n"),
     }
 }
 

@@ -53,7 +53,6 @@ pub enum Content {
         fault: ReadFault,
     },
     Check(GameFault),
-    NotBuilt(GameText),
 }
 
 /// What is wrong with a file, whatever stands in it.

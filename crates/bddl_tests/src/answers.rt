@@ -52,6 +52,20 @@ pub fn answer_of(
     })
 }
 
+/// The text that a game is compiled to.
+pub fn text_of(
+    rt: &impl Abort,
+    alloc: Global,
+    domain: &str,
+    problem: &str,
+) -> Result<Vec<u8>, Fail> {
+    let mut shelf = shelf_of(alloc, domain.as_bytes(), problem.as_bytes())?;
+    let Answer { status, out, note } = answer_of(alloc, &[b"compile", b"d", b"p"], &mut shelf)?;
+    assert!(rt; note.is_empty(), "{domain} {problem}");
+    assert_eq!(rt; status, 0, "{domain} {problem}");
+    Ok(out)
+}
+
 // The lines of a text behind its first.
 pub fn lines_behind_head(text: &[u8]) -> Result<&str, Fail> {
     let text = str::from_utf8(text)?;

@@ -1,6 +1,7 @@
-// Games that have a fault, whose first is told, and games that have none but aren't built yet.
+// Games that have a fault, whose first is told, and games at their limits, which have none.
 
-use crate::answers::assert_refused;
+use crate::answers::{assert_refused, text_of};
+use crate::domains::NONE;
 use std::alloc::{AllocError, Global};
 use std::process::Abort;
 use std::test::Fail;
@@ -332,66 +333,93 @@ fn cells_are_checked_next_and_then_goals(rt: HostRuntime) -> Result<(), Fail> {
     Ok(())
 }
 
-// Actions of both sides may have one name, eight of a side are few enough, and a cell may be 63 columns
-// from the anchor.
+// Each row fills the gaps of a problem, whose game has no fault.
+fn assert_fine(
+    rt: &impl Abort,
+    alloc: Global,
+    domain: &str,
+    problem: &str,
+    rows: &[&[&str]],
+) -> Result<(), Fail> {
+    for parts in rows {
+        let text = text_of(rt, alloc, domain, &filled(alloc, problem, parts)?)?;
+        assert!(rt; text.starts_with(b"p cnf "));
+    }
+    Ok(())
+}
+
 #[test]
-fn games_with_actions_are_not_built(rt: HostRuntime) -> Result<(), Fail> {
-    let rows: [&[&str]; 2] = [
-        &["63", "domain: not built"],
-        &["64", "check: black action 1: never on the board"],
-    ];
-    assert_rows(
+fn a_cell_may_be_63_columns_from_the_anchor(rt: HostRuntime) -> Result<(), Fail> {
+    let case =
+        "#blackactions :action a :parameters (?x,?y) :precondition (NOT(black(?x,?y))) :effect (black(?x+$,?y))
+#whiteactions :action a :parameters (?x,?y) :precondition (NOT(black(?x,?y))) :effect (black(?x+63,?y))";
+    let problem = "#boardsize 64 64 #init () #depth 31 #blackgoals (black(?x,?y-63)) #whitegoals";
+    let nearer = filled(rt.alloc(), case, &["63"])?;
+    assert_fine(&rt, rt.alloc(), &nearer, problem, &[&[]])?;
+    let farther = filled(rt.alloc(), case, &["64"])?;
+    let note = b"check: black action 1: never on the board\n";
+    assert_refused(
         &rt,
         rt.alloc(),
-        "#blackactions :action a :parameters (?x,?y) :precondition (NOT(black(?x,?y))) :effect (black(?x+$,?y))
-#whiteactions :action a :parameters (?x,?y) :precondition (NOT(black(?x,?y))) :effect (black(?x+63,?y))
-|#boardsize 64 64 #init () #depth 31 #blackgoals (black(?x,?y-63)) #whitegoals|$\n",
-        &rows,
-    )?;
+        farther.as_bytes(),
+        problem.as_bytes(),
+        note,
+    )
+}
+
+#[test]
+fn each_side_may_have_the_same_eight_actions(rt: HostRuntime) -> Result<(), Fail> {
     let action = ":action $ :parameters (?x,?y) :precondition () :effect () ";
     let eight = filled(
         rt.alloc(),
         &repeated(rt.alloc(), action, 8)?,
         &["a", "b", "c", "d", "e", "f", "g", "h"],
     )?;
-    let case =
-        "#blackactions $ #whiteactions $|#boardsize 3 2 #init () #depth 0 #blackgoals #whitegoals|domain: not built\n";
-    assert_told(
-        &rt,
+    let domain = filled(
         rt.alloc(),
-        &filled(rt.alloc(), case, &[&eight, &eight])?,
-    )
+        "#blackactions $ #whiteactions $",
+        &[&eight, &eight],
+    )?;
+    let problem = "#boardsize 3 2 #init () #depth 0 #blackgoals #whitegoals";
+    assert_fine(&rt, rt.alloc(), &domain, problem, &[&[]])
 }
 
+// Plies, goals of White, variables and sides of the board in lines, and negated tests.
 #[test]
-fn more_than_a_start_board_is_not_built(rt: HostRuntime) -> Result<(), Fail> {
+fn more_than_a_start_board_has_no_fault(rt: HostRuntime) -> Result<(), Fail> {
     let rows: [&[&str]; 11] = [
-        &["#boardsize 1 1 #init () #depth 1 #blackgoals #whitegoals"],
-        &["#boardsize 1 1 #init () #depth 31 #blackgoals () #whitegoals"],
-        &["#boardsize 1 1 #init () #depth 0 #blackgoals #whitegoals ()"],
-        &["#boardsize 1 1 #init () #depth 0 #blackgoals #whitegoals (black(1,1))"],
-        &["#boardsize 2 3 #init () #depth 0 #blackgoals (black(?x,1)) #whitegoals"],
-        &["#boardsize 2 3 #init () #depth 0 #blackgoals (black(?x+1,1)) #whitegoals"],
-        &["#boardsize 2 3 #init () #depth 0 #blackgoals (black(xmin,1)) #whitegoals"],
-        &["#boardsize 2 3 #init () #depth 0 #blackgoals (black(1,ymax)) #whitegoals"],
-        &["#boardsize 2 3 #init () #depth 0 #blackgoals () (black(2,3) open(1,?y)) () #whitegoals"],
-        &["#boardsize 2 3 #init () #depth 0 #blackgoals (NOT(black(2,3))) #whitegoals"],
-        &[
-            "#boardsize 2 3 #init () #depth 0 #blackgoals () (black(2,3) NOT(open(1,1))) #whitegoals",
-        ],
+        &["1 1", "1", "", ""],
+        &["1 1", "31", "()", ""],
+        &["1 1", "0", "", "()"],
+        &["1 1", "0", "", "(black(1,1))"],
+        &["2 3", "0", "(black(?x,1))", ""],
+        &["2 3", "0", "(black(?x+1,1))", ""],
+        &["2 3", "0", "(black(xmin,1))", ""],
+        &["2 3", "0", "(black(1,ymax))", ""],
+        &["2 3", "0", "() (black(2,3) open(1,?y)) ()", ""],
+        &["2 3", "0", "(NOT(black(2,3)))", ""],
+        &["2 3", "0", "() (black(2,3) NOT(open(1,1)))", ""],
     ];
-    assert_rows(
-        &rt,
-        rt.alloc(),
-        "#blackactions #whiteactions|$|problem: not built\n",
-        &rows,
-    )?;
-    assert_rows(
-        &rt,
-        rt.alloc(),
-        "#blackactions #whiteactions :action a :parameters (?x,?y) :precondition () :effect ()|$|domain: not built\n",
-        &rows,
-    )
+    let problem = "#boardsize $ #init () #depth $ #blackgoals $ #whitegoals $";
+    assert_fine(&rt, rt.alloc(), NONE, problem, &rows)?;
+    let one =
+        "#blackactions #whiteactions :action a :parameters (?x,?y) :precondition () :effect ()";
+    assert_fine(&rt, rt.alloc(), one, problem, &rows)
+}
+
+// As many lines as there may be, each as long as it may be.
+fn longest_lines(alloc: Global) -> Result<String, AllocError> {
+    let line = filled(alloc, "($) ", &[&repeated(alloc, "black(64,?y+63) ", 16)?])?;
+    repeated(alloc, &line, 256)
+}
+
+const AT_LIMITS: &str =
+    "#boardsize 64 64 #init (open(64,64)) #depth 31 #blackgoals $ #whitegoals $";
+
+#[test]
+fn lines_at_their_limits_have_no_fault(rt: HostRuntime) -> Result<(), Fail> {
+    let lines = longest_lines(rt.alloc())?;
+    assert_fine(&rt, rt.alloc(), NONE, AT_LIMITS, &[&[&lines, &lines]])
 }
 
 // All lists at their limits, on the greatest board.
@@ -400,15 +428,18 @@ fn a_game_at_its_limits_has_no_fault(rt: HostRuntime) -> Result<(), Fail> {
     let alloc = rt.alloc();
     let before = repeated(alloc, "NOT(open(?x,?y-63)) ", 8)?;
     let effects = repeated(alloc, "black(?x+63,64) ", 4)?;
-    let action =
-        ":action a2345678901234567890123456789012 :parameters (?x,?y) :precondition ($) :effect ($)";
-    let full = filled(alloc, action, &[&before, &effects])?;
-    let line = filled(alloc, "($) ", &[&repeated(alloc, "black(64,?y+63) ", 16)?])?;
-    let lines = repeated(alloc, &line, 256)?;
-    let problem = "#boardsize 64 64 #init (open(64,64)) #depth 31 #blackgoals $ #whitegoals $";
-    let problem = filled(alloc, problem, &[&lines, &lines])?;
-    let case = "#blackactions $ #whiteactions $|$|domain: not built\n";
-    assert_told(&rt, alloc, &filled(alloc, case, &[&full, &full, &problem])?)?;
-    let case = "#blackactions #whiteactions|$|problem: not built\n";
-    assert_told(&rt, alloc, &filled(alloc, case, &[&problem])?)
+    let action = filled(
+        alloc,
+        ":action a234567890123456789012345678901$ :parameters (?x,?y) :precondition ($) :effect ($) ",
+        &["$", &before, &effects],
+    )?;
+    let eight = repeated(alloc, &action, 8)?;
+    let actions = filled(alloc, &eight, &["a", "b", "c", "d", "e", "f", "g", "h"])?;
+    let domain = filled(
+        alloc,
+        "#blackactions $ #whiteactions $",
+        &[&actions, &actions],
+    )?;
+    let lines = longest_lines(alloc)?;
+    assert_fine(&rt, alloc, &domain, AT_LIMITS, &[&[&lines, &lines]])
 }

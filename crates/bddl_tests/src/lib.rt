@@ -8,9 +8,15 @@ mod answers;
 #[cfg(test)]
 mod checks;
 #[cfg(test)]
+mod domains;
+#[cfg(test)]
 mod evaluator;
 #[cfg(test)]
 mod formatting;
+#[cfg(test)]
+mod formula;
+#[cfg(test)]
+mod games;
 #[cfg(test)]
 mod requests;
 #[cfg(test)]

@@ -1,37 +1,30 @@
 // Start positions from their texts to the values of their formulas.
 
-use crate::answers::{DOMAIN, FORMULA, PROBLEM, answer_of, lines_behind_head, shelf_of};
+use crate::answers::{FORMULA, lines_behind_head, text_of};
+use crate::domains::NONE;
 use crate::evaluator::Evaluator;
 use std::alloc::Global;
 use std::fmt::Write;
 use std::process::Abort;
 use std::test::Fail;
 
-// The text that a problem is compiled to.
-fn text_of(rt: &impl Abort, alloc: Global, problem: &[u8]) -> Result<Vec<u8>, Fail> {
-    let mut shelf = shelf_of(alloc, DOMAIN, problem)?;
-    let answer = answer_of(alloc, &[b"compile", b"d", b"p"], &mut shelf)?;
-    assert_eq!(rt; answer.status, 0);
-    assert!(rt; answer.note.is_empty());
-    Ok(answer.out.clone()?)
-}
-
 // The problems' formulas have these values.
 fn assert_values(rt: &impl Abort, alloc: Global, cases: &[(&str, bool)]) -> Result<(), Fail> {
     for (problem, value) in cases {
-        let text = text_of(rt, alloc, problem.as_bytes())?;
+        let text = text_of(rt, alloc, NONE, problem)?;
         let formula = Evaluator::read(alloc, &text)?;
-        assert_eq!(rt; formula.value(alloc)?, *value, "{problem}");
+        assert_eq!(rt; formula.value()?, *value, "{problem}");
     }
     Ok(())
 }
 
 #[test]
 fn the_text_of_a_problem_without_lines(rt: HostRuntime) -> Result<(), Fail> {
-    let text = text_of(&rt, rt.alloc(), PROBLEM)?;
+    let problem = "#boardsize 1 1 #init () #depth 0 #blackgoals #whitegoals";
+    let text = text_of(&rt, rt.alloc(), NONE, problem)?;
     assert_eq!(rt; text.as_slice(), FORMULA);
     assert_eq!(rt; text.len(), 27);
-    assert!(rt; !Evaluator::read(rt.alloc(), &text)?.value(rt.alloc())?);
+    assert!(rt; !Evaluator::read(rt.alloc(), &text)?.value()?);
     Ok(())
 }
 
@@ -60,9 +53,8 @@ fn a_stone_that_stands(rt: HostRuntime) -> Result<(), Fail> {
 
 #[test]
 fn one_cell_has_one_block(rt: HostRuntime) -> Result<(), Fail> {
-    let problem =
-        b"#boardsize 1 1 #init (black(1,1)) #depth 0 #blackgoals (black(1,1)) #whitegoals";
-    let text = text_of(&rt, rt.alloc(), problem)?;
+    let problem = "#boardsize 1 1 #init (black(1,1)) #depth 0 #blackgoals (black(1,1)) #whitegoals";
+    let text = text_of(&rt, rt.alloc(), NONE, problem)?;
     let lines = lines_behind_head(&text)?;
     assert!(rt; lines.starts_with("e 1 2 "));
     assert!(rt; !lines.contains("\ne "));
@@ -73,34 +65,32 @@ fn one_cell_has_one_block(rt: HostRuntime) -> Result<(), Fail> {
 #[test]
 fn two_cells_have_three_blocks(rt: HostRuntime) -> Result<(), Fail> {
     let problem = "#boardsize 2 1 #init (black(1,1)) #depth 0 #blackgoals (black(1,1)) #whitegoals";
-    let text = text_of(&rt, rt.alloc(), problem.as_bytes())?;
+    let text = text_of(&rt, rt.alloc(), NONE, problem)?;
     let lines = lines_behind_head(&text)?;
     assert!(rt; lines.starts_with("e 1 2 0\na 3 0\ne 4 "));
     assert_values(&rt, rt.alloc(), &[(problem, true)])
 }
 
-// At the cell of a stone that is missing the line fails: the place has to be the other cell.
+// Black claims its goal, which is the other kind of claim than input 1 names. At the cell of a stone that
+// is missing the line fails: the place has to be the other cell.
 #[test]
-fn the_output_is_true_or_the_place(rt: HostRuntime) -> Result<(), Fail> {
+fn two_cells_are_the_kind_and_the_place(rt: HostRuntime) -> Result<(), Fail> {
+    let missing: &[u8] =
+        b"p cnf 5 5\ne 1 2 0\na 3 0\ne 4 5 0\n4 0\n-5 -1 0\n-5 3 0\n5 1 -3 0\n5 0\n";
     let cases: [(&str, &[u8]); 3] = [
         (
             "black(1,1)",
-            b"p cnf 4 2\ne 1 2 0\na 3 0\ne 4 0\n4 0\n4 0\n",
+            b"p cnf 4 2\ne 1 2 0\na 3 0\ne 4 0\n4 0\n-1 0\n",
         ),
-        (
-            "white(1,1)",
-            b"p cnf 4 2\ne 1 2 0\na 3 0\ne 4 0\n4 0\n3 0\n",
-        ),
-        ("", b"p cnf 4 2\ne 1 2 0\na 3 0\ne 4 0\n4 0\n3 0\n"),
+        ("white(1,1)", missing),
+        ("", missing),
     ];
     for (init, text) in &cases {
         let problem = format!(in rt.alloc();
             "#boardsize 2 1 #init ({init}) #depth 0 #first white #blackgoals (black(1,1)) #whitegoals"
         )?;
-        assert_eq!(rt;
-            text_of(&rt, rt.alloc(), problem.as_bytes())?.as_slice(),
-            *text
-        );
+        let found = text_of(&rt, rt.alloc(), NONE, &problem)?;
+        assert_eq!(rt; found.as_slice(), *text);
     }
     Ok(())
 }

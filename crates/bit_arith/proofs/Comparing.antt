@@ -33,3 +33,14 @@ reached_by_bit b r m k = go b r (cases_eq (k % 2) 1)
     go true false (inr even) = rw (ne_eqb (k % 2) 1 even) (same_order _ _ _ _ (λ h. omega arith) (λ h. omega arith))
     go false true (inr even) = rw (ne_eqb (k % 2) 1 even) (same_order _ _ _ _ (λ h. omega arith) (λ h. omega arith))
     go false false (inr even) = rw (ne_eqb (k % 2) 1 even) (same_order _ _ _ _ (λ h. omega arith) (λ h. omega arith))
+
+-- whether a number is below another, by their least bits, where l says it of these
+pub less_by_bit : (b c l : Bool) (m k : ℕ) → nat_le (digit b + 2 * m + digit (not l)) (digit c + 2 * k) ≡ nat_le (m + digit (not (not b && c || (not b || c) && l))) k
+less_by_bit true true true m k = same_order _ _ _ _ (λ h. omega arith) (λ h. omega arith)
+less_by_bit true true false m k = same_order _ _ _ _ (λ h. omega arith) (λ h. omega arith)
+less_by_bit true false true m k = same_order _ _ _ _ (λ h. omega arith) (λ h. omega arith)
+less_by_bit true false false m k = same_order _ _ _ _ (λ h. omega arith) (λ h. omega arith)
+less_by_bit false true true m k = same_order _ _ _ _ (λ h. omega arith) (λ h. omega arith)
+less_by_bit false true false m k = same_order _ _ _ _ (λ h. omega arith) (λ h. omega arith)
+less_by_bit false false true m k = same_order _ _ _ _ (λ h. omega arith) (λ h. omega arith)
+less_by_bit false false false m k = same_order _ _ _ _ (λ h. omega arith) (λ h. omega arith)

@@ -11,7 +11,7 @@ use Rattle.bddl_model.specs.Words.{AreWires, word_bits, number_of_bits, word_val
 use Rattle.bddl_model.proofs.WireWords.{word_kept}
 use Rattle.bit_arith.specs.Digits.{digit}
 use Rattle.bddl_model.proofs.WireItems.{item_wire, next_bits}
-use Rattle.bit_arith.proofs.Comparing.{equal_odd, equal_digits, reached_by_bit}
+use Rattle.bit_arith.proofs.Comparing.{equal_odd, equal_digits, reached_by_bit, less_by_bit}
 use Rattle.bit_arith.proofs.Adding.{number-push, number-drop, digit_odd, sum_turn}
 
 and_associates : (x y z : Bool) → ((x && y) && z) ≡ (x && (y && z))
@@ -83,6 +83,18 @@ module _ (most i : ℕ) (old new after : Circuit) (ws : List Wire) (d x z : Wire
       ∙ and_associates (holds new x a) (beq item item') (later == later')
       ∙ ap (λ b. holds new x a && b) (sym (equal_digits item item' later later'))
       ∙ sym (ap₂ (λ m n. holds new x a && (m == n)) value_left (ap number_of_bits (next_bits most old new us i d a g are' lt')))
+      ∙ e
+
+  pub less_turn : (us : List Wire) (t : Bool) → AreWires old us → i < length us
+      → nat_le (word_value old (drop i ws) a + digit (not (holds new x a))) (word_value old (drop i us) a) ≡ t
+      → holds after z a ≡ (not item && holds new (get_or us i d) a || (not item || holds new (get_or us i d) a) && holds new x a)
+      → nat_le (later + digit (not (holds after z a))) (word_value old (drop (i + 1) us) a) ≡ t
+  less_turn us t are' lt' e v =
+      let later' = word_value old (drop (i + 1) us) a in
+      let item' = holds new (get_or us i d) a in
+      ap (λ b. nat_le (later + digit (not b)) later') v
+      ∙ sym (less_by_bit item item' (holds new x a) later later')
+      ∙ sym (ap₂ (λ m n. nat_le (m + digit (not (holds new x a))) n) value_left (ap number_of_bits (next_bits most old new us i d a g are' lt')))
       ∙ e
 
 -- one more digit of a sum

@@ -22,6 +22,18 @@ pub fn or(dag: &mut Dag, left: Wire, right: Wire) -> Result<Wire, NoMemory>
     Ok(dag.not(neither))
 }
 
+/// A wire that holds where one does or both of two others do.
+pub fn or_both(dag: &mut Dag, known: Wire, left: Wire, right: Wire) -> Result<Wire, NoMemory>
+    requires known { IsWire dag.old known }
+    requires left { IsWire dag.old left }
+    requires right { IsWire dag.old right }
+    requires room { HasRoom dag.old 2 }
+    ensures { Makes 2 dag.old dag.new result (λ a. holds dag.old known a || holds dag.old left a && holds dag.old right a) }
+{
+    let both = dag.and(left, right)?;
+    or(dag, known, both)
+}
+
 /// A wire that holds where both of two do, or where one does.
 pub fn join(dag: &mut Dag, both: bool, left: Wire, right: Wire) -> Result<Wire, NoMemory>
     requires left { IsWire dag.old left }

@@ -11,8 +11,8 @@ mod many;
 mod subtract;
 mod sum;
 
-pub use compare::{at_least, at_most, equal, equal_const};
-pub use gates::{choose, or};
+pub use compare::{at_least, at_most, equal, equal_const, less};
+pub use gates::{choose, or, or_both};
 pub use many::{all_of, any_of};
 pub use subtract::difference;
 pub use sum::add_const;

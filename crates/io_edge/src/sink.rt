@@ -3,6 +3,7 @@ ghost use Rattle.io_edge.specs.Ends.{put_failed};
 ghost use Rattle.io_edge.specs.Outside.{Counts, with_bytes, WithFront};
 ghost use Rattle.io_edge.specs.declared.sink.SinkEnd.TheVariants.{NoMemory as out_of_memory};
 
+use bddl_model::NoMemory;
 use std::alloc::{AllocError, AllocFailed};
 use thiserror::Error;
 
@@ -13,6 +14,14 @@ pub enum SinkEnd {
     Failed,
     #[error("out of memory")]
     NoMemory,
+}
+
+impl From<NoMemory> for SinkEnd {
+    ghost from_gives = { λ _ e. e ≡ out_of_memory };
+
+    fn from(_: NoMemory) -> Self {
+        SinkEnd::NoMemory
+    }
 }
 
 impl From<AllocError> for SinkEnd {

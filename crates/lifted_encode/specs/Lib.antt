@@ -1,2 +1,6 @@
-pub mod Fixed
-pub mod Serving
+pub mod Asking
+pub mod Chosen
+pub mod Telling
+pub mod Followed
+pub mod Joined
+pub mod Encoded

@@ -1,13 +1,16 @@
-//! A problem as a quantified formula.
+//! A game as a circuit over the moves of both sides and a claim of Black, by which it is decided.
 //!
-//! The formula is true exactly when Black can force its goal: read `Encodes` in
-//! `bddl_model/specs/Encodes.antt` first.
+//! The circuit holds no board but the start, and follows one cell, whose place is chosen last: read
+//! `Conditions.antt` and `Encoding.antt` in `bddl_model/specs` first.
 #![tactic(auto)]
 
-mod board;
-mod inputs;
-mod number;
-mod serving;
-mod start;
+mod asked;
+mod choice;
+mod conditions;
+mod items;
+mod lifted;
+mod moments;
+mod plies;
+mod run;
 
-pub use start::start_form;
+pub use lifted::{Lifted, encode};

@@ -1,5 +1,5 @@
 pub mod Numbers
 pub mod Ranges
-pub mod CodeWords
+pub mod CodeSplit
 pub mod Covered
 pub mod Plies

@@ -15,4 +15,4 @@ pub use bddl_model::PlyBits;
 pub use code::{Shape, bits_of, move_of};
 pub use layout::Layout;
 pub use number::bits;
-pub use range::in_range;
+pub use range::{CodeWords, in_range, names};

@@ -16,12 +16,13 @@ use bit_arith::{at_least, at_most, equal_const, or};
 use circuit_dag::Dag;
 use grid_game::Game;
 
-// The words of a code: the action, x - 1 and y - 1.
+/// The words of a code: the action, x - 1 and y - 1. Those of a goal line and its anchor are three
+/// too, and the line stands in the place of the action.
 #[derive(Clone, Copy)]
-struct CodeWords<'a> {
-    action: &'a [Wire],
-    x: &'a [Wire],
-    y: &'a [Wire],
+pub struct CodeWords<'a> {
+    pub action: &'a [Wire],
+    pub x: &'a [Wire],
+    pub y: &'a [Wire],
 }
 
 impl<'a> CodeWords<'a> {
@@ -54,8 +55,8 @@ fn stands_between(dag: &mut Dag, word: &[Wire], low: u32, high: u32) -> Result<W
     dag.and(from, to)
 }
 
-// A wire that holds where the words spell a move of the action, at an anchor of its rectangle.
-fn names(dag: &mut Dag, words: CodeWords, action: u32, rect: Rect) -> Result<Wire, NoMemory>
+/// A wire that holds where the words spell a move of the action, at an anchor of its rectangle.
+pub fn names(dag: &mut Dag, words: CodeWords, action: u32, rect: Rect) -> Result<Wire, NoMemory>
     requires words { AreCodeWires dag.old words }
     requires rect { CountsFromOne rect }
     requires room { HasRoom dag.old (action_gates words) }

@@ -1,4 +1,4 @@
--- The sets of a prefix, block by block.
+-- The sets of a prefix, block by block, and the head that they stand in.
 use Rattle.std.proofs.Common.{ℕ, ◌≡◌, ◌+◌, ◌≤◌, suc, List, [], ◌∷◌, ◌++◌, length, take, drop, refl, sym, ap, ◌∙◌, arith}
 use Rattle.std.specs.Prelude.{flat_map}
 use Rattle.std.specs.List.{prefix_len, slice_index_or}
@@ -6,7 +6,7 @@ use Rattle.bddl_model.specs.declared.formula.Quant.{Quant}
 use Rattle.bddl_model.specs.declared.formula.Quant.TheVariants.{Exists, All}
 use Rattle.bddl_model.specs.declared.formula.Bound.{Bound}
 use Rattle.bddl_model.specs.Forms.{prefix_variables}
-use Rattle.bddl_model.specs.FormulaText.{QuantSet, line_text, set_line, same_quant, onto_sets, sets_of}
+use Rattle.bddl_model.specs.FormulaText.{QuantSet, line_text, head_line, set_line, same_quant, onto_sets, sets_of, greatest_variable, head_text}
 
 abbrev pub set_of : Quant → List Bound → QuantSet
 set_of q bs = record { quant = q; vars = prefix_variables bs }
@@ -49,3 +49,7 @@ blocks_text_next [] front back d n some is in_front behind = absurd (omega arith
 blocks_text_next (b ∷ bs) front back d n some is in_front behind =
     let length_is : suc (run b.quant bs) ≡ n = one_more (run b.quant bs) ∙ sym (is ∙ run_some b.quant b.var.0 bs) in
     rw (in_front, behind) (ap (flat_map (λ s. line_text (set_line s))) (sets_next b bs ∙ ap (λ m. cut b.quant m (b ∷ bs)) length_is))
+
+-- the problem line, and then the blocks
+pub head_text_is : (prefix bounds : List Bound) (v clauses : ℕ) → bounds ≡ prefix → v ≡ greatest_variable bounds → head_text prefix clauses ≡ line_text (head_line v clauses) ++ blocks_text bounds
+head_text_is prefix bounds v clauses same greatest = rw (greatest, same) refl

@@ -41,7 +41,7 @@ values_behind a v n zero le = ap₂ (values_at a) (omega arith) (omega arith)
 values_behind a v zero (suc k) le = absurd (omega arith)
 values_behind a v (suc n) (suc k) le = values_behind a (suc v) n k (omega arith) ∙ ap₂ (values_at a) (omega arith) (omega arith)
 
-values_number : (a : Assignment) (v n : ℕ) → number_of_bits (values_at a v n) ≡ number_at a v n
+pub values_number : (a : Assignment) (v n : ℕ) → number_of_bits (values_at a v n) ≡ number_at a v n
 values_number a v zero = refl
 values_number a v (suc n) = ap (λ m. (if a v then 1 else 0) + 2 * m) (values_number a (suc v) n)
 
@@ -51,13 +51,13 @@ values_push a v (suc n) = ap (λ l. a v ∷ l) (values_push a (suc v) n ∙ ap (
 
 -- ---- places and moves
 
-cell_values : (a : Assignment) (v n w h : ℕ) → n ≡ w + h → spelled_cell w (values_at a v n) ≡ record { x = number_at a v w + 1; y = number_at a (v + w) h + 1 }
+pub cell_values : (a : Assignment) (v n w h : ℕ) → n ≡ w + h → spelled_cell w (values_at a v n) ≡ record { x = number_at a v w + 1; y = number_at a (v + w) h + 1 }
 cell_values a v n w h e =
     let column = values_front a v n w (omega (arith, e)) in
     let row = ap number_of_bits (values_behind a v n w (omega (arith, e))) ∙ values_number a (v + w) (n - w) ∙ ap (number_at a (v + w)) (omega (arith, e)) in
     ap₂ (λ x y. record { x = x + 1; y = y + 1 }) column row
 
-move_values : (g : Game) (side : Side) (a : Assignment) (s : Span) → 1 ≤ length (actions g side) → s.len ≡ code_length (shape_of g side)
+pub move_values : (g : Game) (side : Side) (a : Assignment) (s : Span) → 1 ≤ length (actions g side) → s.len ≡ code_length (shape_of g side)
     → spelled_move (shape_of g side) (values_at a s.from s.len) ≡ coded_move g side a s
 move_values g side a s some len =
     let n = bits (length (actions g side)) in

@@ -54,7 +54,7 @@ module _ (g : Game) (side : Side) (is : IsGame g) (some : 1 ≤ length (actions 
 
   -- the parts, however they were cut
   module _ (action anchor : List Wire) (x_bits : ℕ) (front : action ≡ take count code) (behind : anchor ≡ drop count code) (columns : x_bits ≡ bits g.width) where
-    parts_named : (c : Circuit) (a : Assignment) → move_at (word_value c action a) (spelled_cell x_bits (word_bits c anchor a)) ≡ spelled_move (shape_of g side) (word_bits c code a)
+    pub parts_named : (c : Circuit) (a : Assignment) → move_at (word_value c action a) (spelled_cell x_bits (word_bits c anchor a)) ≡ spelled_move (shape_of g side) (word_bits c code a)
     parts_named c a =
         ap₂ (λ (x y : List Wire). move_at (word_value c x a) (spelled_cell x_bits (word_bits c y a))) front behind
         ∙ ap (λ n. move_at (word_value c (take count code) a) (spelled_cell n (word_bits c (drop count code) a))) columns

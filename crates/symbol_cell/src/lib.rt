@@ -17,5 +17,6 @@ mod word;
 pub use laws::takes_few_gates;
 pub use pair::Pair;
 pub use run::{SymbolRun, later_gates_keep, layout_marks_are_shown};
+pub use step::Cells;
 pub use touch::touches;
 pub use word::input_word;

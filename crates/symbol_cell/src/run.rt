@@ -108,6 +108,20 @@ impl SymbolRun {
         Ok(())
     }
 
+    /// A law: there is a moment before the first ply, and one behind each.
+    pub fn keeps_its_moments(&self)
+        ensures { length self.now.pairs ≡ length self.now.plies + 1 }
+    {
+        let _ = &self.steps;
+    }
+
+    /// The wires of the place.
+    pub fn place(&self) -> &[Wire]
+        ensures { result.now ≡ self.now.place }
+    {
+        &self.place
+    }
+
     fn pair_at(&self, time: usize) -> Pair
         requires { time ≤ length self.now.plies }
         ensures { slice_get self.now.pairs time ≡ Some result }

@@ -1,1 +1,1 @@
-pub mod GateLoop
+pub mod ClausePlaces

@@ -1,4 +1,4 @@
-use Rattle.std.proofs.Common.{◌∙◌, ap, inr, refl}
+use Rattle.std.proofs.Common.{◌∙◌, ap, inr}
 use Rattle.std.proofs.lemmas.Result.{err_from_is_err_and}
 use Rattle.bddl_model.specs.Canonical.{problem_text}
 use Rattle.bddl_model.specs.declared.texts.ProblemText.{ProblemText}

@@ -10,7 +10,7 @@ check-requires-clause-black c = (named c.in_ok-domain.domain c.in_ok-domain.ensu
 pub check-requires-clause-white : goal.check-requires-clause-white
 check-requires-clause-white c = (named c.in_ok-domain.domain c.in_ok-domain.ensures.spelled).1
 
-pub returns-in_err-setup-clause-stop : goal.returns-in_err-setup-clause-stop
-returns-in_err-setup-clause-stop c =
-    let end = err_from_is_err_and c.from_residual-in_err-setup.result c.from_residual-in_err-setup.ensures.1 in
-    rw end.1 (check_stops c.args.domain.now c.args.problem.now c.in_ok-domain.domain c.in_ok-problem.problem c.in_err-setup.field-0.0 (Err c.in_err-setup.field-0.0) end.0 refl c.in_ok-domain.ensures.found c.in_ok-problem.ensures.found c.in_err-setup.ensures end.2)
+pub returns-in_err-check-clause-stop : goal.returns-in_err-check-clause-stop
+returns-in_err-check-clause-stop c =
+    let end = err_from_is_err_and c.from_residual-in_err-check.result c.from_residual-in_err-check.ensures.1 in
+    rw end.1 (check_stops c.args.domain.now c.args.problem.now c.in_ok-domain.domain c.in_ok-problem.problem c.in_err-check.field-0.0 (Err c.in_err-check.field-0.0) end.0 refl c.in_ok-domain.ensures.found c.in_ok-problem.ensures.found c.in_err-check.ensures end.2)

@@ -1,4 +1,4 @@
-use Rattle.std.proofs.Common.{◌≡◌, ◌<◌, ◌∙◌, ℕ, List, ◌∷◌, [], None, ap, arith, length, map, rules, subst, sym, true}
+use Rattle.std.proofs.Common.{◌<◌, ◌∙◌, ◌∷◌, [], None, ap, arith, length, map, rules, subst, true}
 use Rattle.std.proofs.lemmas.List.{map-append}
 use Rattle.std.proofs.lemmas.Result.{err_from_is_err_and}
 use Rattle.bddl_requests.specs.Ends.{FindsOne}

@@ -1,5 +1,5 @@
 use Rattle.std.proofs.Common.{length, ap, arith}
-use Rattle.move_code.proofs.CodeWords.{few_gates}
+use Rattle.move_code.proofs.CodeSplit.{few_gates}
 use Rattle.part_tests.proofs.ranges.range_is.Goals as goal
 
 pub in_range-requires-clause-room : goal.in_range-requires-clause-room

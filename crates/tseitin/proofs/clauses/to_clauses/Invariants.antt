@@ -1,10 +1,9 @@
-use Rattle.std.proofs.Common.{◌≡◌, ◌≤◌, ◌-◌, ◌++◌, suc, drop}
-use Rattle.bddl_model.specs.Circuit.{gates_clauses, output_clause, circuit_clauses}
+use Rattle.std.proofs.Common.{◌≡◌, take}
+use Rattle.bddl_model.specs.Circuit.{circuit_clauses}
 use Rattle.tseitin.proofs.clauses.to_clauses.Given as goal
 
-abbrev pub invariant-loop-node : goal.invariant-loop-node
-invariant-loop-node l = record {
-  least : suc l.inputs ≤ l.node;
+abbrev pub invariant-loop-number : goal.invariant-loop-number
+invariant-loop-number l = record {
   prefix : l.form.prefix ≡ l.fn.prefix;
-  rest : l.form.clauses ++ gates_clauses l.inputs (drop (l.node - suc l.inputs) l.dag.gates) (suc l.node) (output_clause l.inputs l.fn.out) ≡ circuit_clauses l.fn.dag l.out;
+  clauses : l.form.clauses ≡ take l.number (circuit_clauses l.dag l.out);
 }

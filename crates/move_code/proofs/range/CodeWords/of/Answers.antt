@@ -1,5 +1,5 @@
 use Rattle.std.proofs.Common.{rules, subst}
-use Rattle.move_code.proofs.CodeWords.{AreParts, parts_are_words}
+use Rattle.move_code.proofs.CodeSplit.{AreParts, parts_are_words}
 use Rattle.move_code.proofs.range.CodeWords.of.Goals as goal
 
 pub returns : goal.returns

@@ -1,0 +1,19 @@
+use Rattle.std.proofs.Common.{◌≡◌, ◌*◌, ◌||◌, drop, take}
+use Rattle.std.specs.List.{sum_by}
+use Rattle.bddl_model.specs.Truth.{Assignment}
+use Rattle.bddl_model.specs.Circuit.{IsWire, holds}
+use Rattle.bddl_model.specs.Growth.{Grows}
+use Rattle.bddl_model.specs.Layout.{anchor_bits}
+use Rattle.bddl_model.specs.Words.{word_value}
+use Rattle.symbol_cell.specs.Runs.{place_named}
+use Rattle.symbol_cell.specs.Steps.{unit}
+use Rattle.lifted_encode.specs.Telling.{marks_of, one_refused, refused_parts}
+use Rattle.lifted_encode.proofs.plies.one_refused.Given as goal
+
+abbrev pub invariant-plies : goal.invariant-plies
+invariant-plies l = record {
+  wire : IsWire l.dag l.known;
+  grows : Grows (unit (anchor_bits l.game) * sum_by (refused_parts l.game) (take l.number l.plies)) l.fn.dag l.dag;
+  value : (a : Assignment) → (holds l.dag l.known a || one_refused l.game a (word_value l.fn.dag l.time a) (place_named l.game l.fn.dag a l.run.place) (marks_of l.fn.dag l.run a) (word_value l.fn.dag l.test a) l.number (drop l.number l.plies))
+      ≡ one_refused l.game a (word_value l.fn.dag l.time a) (place_named l.game l.fn.dag a l.run.place) (marks_of l.fn.dag l.run a) (word_value l.fn.dag l.test a) 0 l.plies;
+}
