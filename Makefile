@@ -18,6 +18,7 @@ checked: bddl
 	done
 
 bddl: crates.txt $(wildcard crates/*/src/*.rt crates/*/src/*/*.rt crates/*/specs/*.antt)
+	cd crates && rt all check --jobs $(shell nproc)
 	cd crates/bddl_cli && rt run -- compile ../../$(EXAMPLE)/domain.bddl ../../$(EXAMPLE)/problem.bddl
 	cp crates/bddl_cli/out/bddl_cli $@
 

@@ -7,20 +7,20 @@ use Rattle.bddl_model.specs.declared.command.Command.{Command}
 use Rattle.bddl_model.specs.Outcome.{End, done, ContentEnds, FilesThen, Finds, IsResult, MayEnd}
 use Rattle.io_edge.specs.Outside.{Counts, Rose, with_bytes, WithFront}
 use Rattle.io_edge.proofs.Fronts.{with_bytes_none}
-use Rattle.bddl_requests.specs.Ends.{Answers, AreWithin, CutShort, IsFileStop, Nothing, StopsAt, Tells, Writes, closed, content_told, is_read_fault, is_write_fault, refusal_told}
-use Rattle.bddl_requests.specs.Stops.{stop_of_content}
-use Rattle.bddl_requests.specs.declared.refusal.Close.{Close}
-use Rattle.bddl_requests.specs.declared.refusal.Close.TheVariants as close
-use Rattle.bddl_requests.specs.declared.refusal.Content.{Content}
-use Rattle.bddl_requests.specs.declared.refusal.Content.TheVariants as content
-use Rattle.bddl_requests.specs.declared.refusal.FileEnd.TheVariants as file_end
-use Rattle.bddl_requests.specs.declared.refusal.Refusal.{Refusal}
-use Rattle.bddl_requests.specs.declared.refusal.Refusal.TheVariants as refusal
-use Rattle.bddl_requests.specs.declared.refusal.Stop.{Stop}
-use Rattle.bddl_requests.specs.declared.refusal.Stop.TheVariants as stop
-use Rattle.bddl_requests.proofs.Files.{files_go_on, files_then}
+use Rattle.request_parts.specs.Ends.{Answers, AreWithin, CutShort, IsFileStop, Nothing, StopsAt, Tells, Writes, closed, content_told, is_read_fault, is_write_fault, refusal_told}
+use Rattle.request_parts.specs.Stops.{stop_of_content}
+use Rattle.request_parts.specs.declared.refusal.Close.{Close}
+use Rattle.request_parts.specs.declared.refusal.Close.TheVariants as close
+use Rattle.request_parts.specs.declared.refusal.Content.{Content}
+use Rattle.request_parts.specs.declared.refusal.Content.TheVariants as content
+use Rattle.request_parts.specs.declared.refusal.FileEnd.TheVariants as file_end
+use Rattle.request_parts.specs.declared.refusal.Refusal.{Refusal}
+use Rattle.request_parts.specs.declared.refusal.Refusal.TheVariants as refusal
+use Rattle.request_parts.specs.declared.refusal.Stop.{Stop}
+use Rattle.request_parts.specs.declared.refusal.Stop.TheVariants as stop
+use Rattle.request_parts.proofs.Files.{files_go_on, files_then}
 use Rattle.bddl_requests.proofs.Results.{result_of_request}
-use Rattle.bddl_requests.proofs.Stopping.{stops_in, stops_writing}
+use Rattle.request_parts.proofs.Stopping.{stops_in, stops_writing}
 
 -- ---- by the contents of files
 

@@ -11,11 +11,11 @@ use Rattle.bddl_model.specs.Setup.{Setup}
 use Rattle.bddl_model.specs.Outcome.{done, CompileEnds, GameThen, States}
 use Rattle.io_edge.specs.declared.sink.SinkEnd.{SinkEnd}
 use Rattle.strategy.specs.Written.{WritesForm}
-use Rattle.bddl_requests.specs.Ends.{Writes, content_told}
-use Rattle.bddl_requests.specs.Stops.{stop_of_sink}
-use Rattle.bddl_requests.specs.declared.refusal.Close.TheVariants as close
-use Rattle.bddl_requests.proofs.Games.{game_goes_on}
-use Rattle.bddl_requests.proofs.Stopping.{stops_cut, text_is_cut, text_is_written}
+use Rattle.request_parts.specs.Ends.{Writes, content_told}
+use Rattle.request_parts.specs.Stops.{stop_of_sink}
+use Rattle.request_parts.specs.declared.refusal.Close.TheVariants as close
+use Rattle.request_parts.proofs.Games.{game_goes_on}
+use Rattle.request_parts.proofs.Stopping.{stops_cut, text_is_cut, text_is_written}
 
 -- each text of a form is read as that form
 abbrev pub AreRead : Type 0

@@ -6,8 +6,8 @@ use Rattle.bddl_model.specs.Files.{Files}
 use Rattle.bddl_model.specs.Request.{Request, limits_of}
 use Rattle.bddl_model.specs.Setup.{Setup}
 use Rattle.bddl_model.specs.Outcome.{End, done, Compiles, CompileEnds, ContentEnds, GameThen, Finds, IsResult, MayEnd, Results}
-use Rattle.bddl_requests.proofs.Done.{not_refused}
-use Rattle.bddl_requests.proofs.Files.{files_were_read}
+use Rattle.request_parts.proofs.Done.{not_refused}
+use Rattle.request_parts.proofs.Files.{files_were_read}
 
 out_is : (a b : List ℕ) → done a ≡ done b → a ≡ b
 out_is a b e = ap (λ (x : End). x.out) e

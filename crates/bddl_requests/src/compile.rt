@@ -2,12 +2,11 @@
 ghost use Rattle.std.specs.Prelude.{◌≤◌, length};
 ghost use Rattle.bddl_model.specs.Outcome.{GameThen, CompileEnds};
 ghost use Rattle.io_edge.specs.Outside.{Counts};
-ghost use Rattle.bddl_requests.specs.Ends.{Writes, content_told, is_write_fault};
+ghost use Rattle.request_parts.specs.Ends.{Writes, content_told, is_write_fault};
 
-use crate::game_texts::read_game;
-use crate::refusal::{Close, Content, Stop};
 use bddl_laws::text_is_read;
 use io_edge::Sink;
+use request_parts::{Close, Content, Stop, read_game};
 use std::alloc::Global;
 use strategy::compile_to;
 

@@ -4,17 +4,7 @@
 //! and then `MayEnd` in `bddl_model/specs/Outcome.antt`.
 #![tactic(auto)]
 
-mod about;
-mod command;
 mod compile;
-mod format;
-mod game_fault;
-mod game_texts;
-mod notes;
-mod number;
 mod program;
-mod read;
-mod refusal;
-mod request;
 
 pub use program::run;

@@ -4,18 +4,15 @@ ghost use Rattle.bddl_model.specs.Outcome.{ContentEnds, End, IsResult, MayEnd};
 ghost use Rattle.bddl_model.specs.Request as spec;
 ghost use Rattle.bddl_model.specs.Request.{request_of};
 ghost use Rattle.io_edge.specs.Outside.{Counts, Rose, with_bytes};
-ghost use Rattle.bddl_requests.specs.Ends.{Answers, AreWithin, Tells, Writes, content_told, is_read_fault, is_write_fault, refusal_told};
+ghost use Rattle.request_parts.specs.Ends.{Answers, AreWithin, Tells, Writes, content_told, is_read_fault, is_write_fault, refusal_told};
 
-use crate::about::{help, version};
-use crate::command::limits_of;
 use crate::compile::compile;
-use crate::format::{format_domain, format_problem};
-use crate::notes::{note_of, status_of};
-use crate::read::read_files;
-use crate::refusal::{Close, Content, Refusal, Stop};
-use crate::request::{Request, read_request};
 use bddl_model::Command;
 use io_edge::{Shelf, Sink, SinkEnd, put_text};
+use request_parts::{
+    Close, Content, Refusal, Request, Stop, format_domain, format_problem, help, limits_of,
+    note_of, read_files, read_request, status_of, version,
+};
 use std::alloc::{AllocError, Global};
 
 /// Carries out the request of the words, and answers the exit status: 0 where it was carried out,

@@ -151,44 +151,6 @@ impl Evaluator {
         Ok(())
     }
 
-    pub fn flip(&mut self, number: u32) -> bool {
-        let mut n = number / 2;
-        for gate in &mut self.base.gates {
-            if n == 0 {
-                if number % 2 == 0 {
-                    gate.left = gate.left.negation();
-                } else {
-                    gate.right = gate.right.negation();
-                }
-                return true;
-            }
-            n -= 1;
-        }
-        for level in &mut self.levels {
-            for gate in &mut level.work.gates {
-                if n == 0 {
-                    if number % 2 == 0 {
-                        gate.left = gate.left.negation();
-                    } else {
-                        gate.right = gate.right.negation();
-                    }
-                    return true;
-                }
-                n -= 1;
-            }
-            for clause in &mut level.work.clauses {
-                if n == 0 {
-                    for l in clause.iter_mut() {
-                        *l = l.negation();
-                    }
-                    return number % 2 == 0;
-                }
-                n -= 1;
-            }
-        }
-        false
-    }
-
     /// Its value.
     pub fn value(&self) -> Result<bool, AllocError> {
         self.value_behind(&[])

@@ -12,11 +12,15 @@ mod domains;
 #[cfg(test)]
 mod evaluator;
 #[cfg(test)]
+mod exactness;
+#[cfg(test)]
 mod formatting;
 #[cfg(test)]
 mod formula;
 #[cfg(test)]
 mod games;
+#[cfg(test)]
+mod positions;
 #[cfg(test)]
 mod requests;
 #[cfg(test)]

@@ -1,5 +1,5 @@
 -- The items of a game, one after the other, and the one that is chosen.
-use Rattle.std.proofs.Common.{◌≡◌, ◌≢◌, ℕ, ◌+◌, ◌≤◌, ◌<◌, Bool, true, false, ◌&&◌, ◌||◌, ◌==◌, List, [], length, get_or, take, drop, inl, inr, refl, sym, ap, ◌∙◌, arith, eq-eqb, ne_eqb, lt-ltb, le-ltb}
+use Rattle.std.proofs.Common.{◌≡◌, ◌≢◌, ℕ, ◌+◌, ◌≤◌, ◌<◌, Bool, false, ◌&&◌, ◌||◌, ◌==◌, List, [], length, get_or, take, drop, inl, inr, refl, sym, ap, ◌∙◌, arith, eq-eqb, ne_eqb, lt-ltb, le-ltb}
 use Rattle.std.specs.Prelude.{nat_lt, slice_get}
 use Rattle.std.proofs.lemmas.Bool.{cases_lt, cases_eq}
 use Rattle.std.proofs.lemmas.List.{get_or-map, length-map}
@@ -25,6 +25,7 @@ use Rattle.lifted_encode.specs.declared.items.Items.{Items}
 use Rattle.lifted_encode.specs.declared.items.Items.TheVariants.{Actions, Lines}
 use Rattle.lifted_encode.specs.Asking.{Question, Here, meet_from}
 use Rattle.lifted_encode.specs.Chosen.{Item, of_action, of_line, items_of, item_at, item_meets}
+use Rattle.lifted_encode.proofs.Booleans.{or_false}
 
 -- ---- what an item has
 
@@ -76,10 +77,6 @@ module _ (g : Game) (items : List Item) (n : ℕ) (q : Question) (here : Here) w
         | inr other ↦ rw (ne_eqb n i other) (elsewhere i other)
       ]
     where
-      or_false : (b : Bool) → (b || false) ≡ b
-      or_false true = refl
-      or_false false = refl
-
       elsewhere : (i : ℕ) → n ≢ i → ((nat_lt n i && item_meets g (slice_get items n) q here) || false) ≡ (nat_lt n (i + 1) && item_meets g (slice_get items n) q here)
       elsewhere i other = elim (cases_lt n i) [
         | inl below ↦ rw (lt-ltb n i below, lt-ltb n (i + 1) (omega arith)) (or_false (item_meets g (slice_get items n) q here))

@@ -14,6 +14,7 @@ use Rattle.bddl_model.specs.Game.{Game, Action, action_atoms, line_atoms, action
 use Rattle.lifted_encode.specs.declared.items.Items.TheVariants.{Actions, Lines}
 use Rattle.lifted_encode.specs.Asking.{Question, all_pass, unrefuted, Here, placed, meet_from, are_met, found_met}
 use Rattle.lifted_encode.specs.Chosen.{of_action, of_line, items_of, item_meets}
+use Rattle.lifted_encode.proofs.Booleans.{and_true, not_not}
 
 -- ---- tests
 
@@ -25,10 +26,6 @@ all_met number here (t ∷ ts) = ap (λ b. passes_at here.place here.mark (place
 met_behind : (n number : ℕ) (here : Here) (ts : List Test) → n < number → meet_from (unrefuted n) number here ts ≡ true
 met_behind n number here [] lt = refl
 met_behind n number here (t ∷ ts) lt = rw (ne_eqb n number (omega arith)) (met_behind n (suc number) here ts (omega arith))
-
-pub and_true : (b : Bool) → (b && true) ≡ b
-and_true true = refl
-and_true false = refl
 
 -- so many tests are left before the one of the number
 unrefuted_met : (left n number : ℕ) (here : Here) (ts : List Test) → n ≡ number + left → meet_from (unrefuted n) number here ts ≡ not (one_fails_at here.place here.mark left (tests_from here.anchor ts))
@@ -70,10 +67,6 @@ module _ (g : Game) (q : Question) (here : Here) where
 pub found_pass : (place : Cell) (mark : Mark) (o : Option (List PlacedTest)) → found_met all_pass place mark o ≡ all_pass_at place mark o
 found_pass place mark None = refl
 found_pass place mark (Some ts) = refl
-
-pub not_not : (b : Bool) → not (not b) ≡ b
-not_not true = refl
-not_not false = refl
 
 pub found_refused : (place : Cell) (mark : Mark) (n : ℕ) (o : Option (List PlacedTest)) → not (found_met (unrefuted n) place mark o) ≡ is_refused place mark n o
 found_refused place mark n None = refl

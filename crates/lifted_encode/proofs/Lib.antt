@@ -1,3 +1,4 @@
+pub mod Booleans
 pub mod Meeting
 pub mod Choosing
 pub mod Reading

@@ -9,6 +9,7 @@ use Rattle.bddl_model.specs.Truth.{Assignment}
 use Rattle.bddl_model.specs.Circuit.{Circuit, holds}
 use Rattle.symbol_cell.specs.Pairs.{IsPair, mark_of}
 use Rattle.lifted_encode.specs.Telling.{mark_below}
+use Rattle.lifted_encode.proofs.Booleans.{or_false}
 
 -- ---- what the wires of a pair hold
 
@@ -41,10 +42,6 @@ moment_turn test marks i time known after e h = h ∙ ap (λ b. b || time == i &
   | inr other ↦ rw (ne_eqb time i other) (or_false (nat_lt time i && test (marks time)) ∙ ap (λ b. b && test (marks time)) (below other))
 ]
   where
-    or_false : (b : Bool) → (b || false) ≡ b
-    or_false true = refl
-    or_false false = refl
-
     below : (time ≡ i → ⊥) → nat_lt time i ≡ nat_lt time (i + 1)
     below other = elim (cases_lt time i) [
       | inl lt ↦ lt-ltb time i lt ∙ sym (lt-ltb time (i + 1) (omega arith))

@@ -1,11 +1,13 @@
 -- What is asked of tests, one after the other, in a circuit that grows.
-use Rattle.std.proofs.Common.{◌≡◌, ℕ, suc, ◌<◌, ◌+◌, Bool, true, false, ◌&&◌, List, length, get_or, drop, refl, sym, ap, ap₂, ◌∙◌, arith}
+use Rattle.std.proofs.Common.{◌≡◌, ℕ, suc, ◌<◌, ◌+◌, Bool, true, false, not, ◌&&◌, ◌||◌, if◌then◌else◌, List, length, get_or, drop, refl, sym, ap, ap₂, ◌∙◌, arith}
 use Rattle.std.proofs.lemmas.List.{drop_more}
 use Rattle.bddl_model.specs.declared.circuit.Wire.{Wire}
+use Rattle.bddl_model.specs.declared.game.Mark.{Mark}
 use Rattle.bddl_model.specs.declared.game.Test.{Test}
 use Rattle.bddl_model.specs.Truth.{Assignment}
+use Rattle.bddl_model.specs.Board.{same_mark}
 use Rattle.bddl_model.specs.Circuit.{Circuit, IsWire, holds}
-use Rattle.bddl_model.specs.Conditions.{same_cell}
+use Rattle.bddl_model.specs.Conditions.{Cell, same_cell, passes_at, fails_at}
 use Rattle.bddl_model.specs.Fitting.{passes}
 use Rattle.bddl_model.specs.Growth.{Grows}
 use Rattle.bddl_model.specs.OneCell.{touches}
@@ -17,6 +19,7 @@ use Rattle.lifted_encode.specs.declared.asked.Asked.{Asked}
 use Rattle.lifted_encode.specs.declared.asked.Asked.TheVariants.{AllPass, Unrefuted}
 use Rattle.lifted_encode.specs.declared.asked.Spot.{Spot}
 use Rattle.lifted_encode.specs.Asking.{Question, unrefuted, Here, placed, meets, meet_from, IsAsked, question, IsSpot, here_of}
+use Rattle.lifted_encode.proofs.Booleans.{and_associates}
 
 -- ---- what stays while the circuit grows
 
@@ -45,11 +48,16 @@ module _ {m n : ℕ} {c d e : Circuit} (s : Spot) (t : Test) (here passed : Wire
   pub test_passed : holds e passed a ≡ passes (mark_of d s.mark a) t → holds e passed a ≡ passes (mark_of c s.mark a) t
   test_passed v = v ∙ ap (λ mark. passes mark t) (mark_kept m c d s.mark a g is.mark)
 
--- ---- one test more
+-- the opposite test passes where this one fails
+pub opposite_fails : (place anchor : Cell) (mark : Mark) (t : Test) → passes_at place mark (placed anchor (record t { negated = not t.negated })) ≡ fails_at place mark (placed anchor t)
+opposite_fails place anchor mark t = ap (λ b. not (same_cell (placed anchor t).cell place) || b) (turned t.negated (same_mark mark t.atom.mark))
+  where
+    turned : (negated same : Bool) → (if not negated then not same else same) ≡ not (if negated then not same else same)
+    turned true true = refl
+    turned true false = refl
+    turned false same = refl
 
-pub and_associates : (x y z : Bool) → ((x && y) && z) ≡ (x && (y && z))
-and_associates true y z = refl
-and_associates false y z = refl
+-- ---- one test more
 
 -- test number i was asked, and those before it
 pub meet_turn : (q p : Question) (i : ℕ) (here there : Here) (tests : List Test) (none : Test) (known after whole : Bool) → i < length tests → p ≡ q → there ≡ here

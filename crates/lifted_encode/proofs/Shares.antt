@@ -1,6 +1,7 @@
 -- The parts of a circuit are fewer than the units of its game, so its gates keep to the limit.
-use Rattle.std.proofs.Common.{◌≡◌, ℕ, zero, suc, ◌≤◌, ◌+◌, ◌*◌, not, if◌then◌else◌, List, [], ◌∷◌, map, sym, subst, arith, mul-le-mul_left, mul-add, mul-one}
+use Rattle.std.proofs.Common.{◌≡◌, ℕ, zero, suc, ◌≤◌, ◌<◌, ◌+◌, ◌*◌, not, if◌then◌else◌, List, [], ◌∷◌, map, sym, subst, arith, mul-le-mul_left, mul-add, mul-one}
 use Rattle.std.specs.List.{sum_by}
+use Rattle.std.proofs.Math.Nat.{mul-le-mul_right}
 use Rattle.std.proofs.lemmas.List.Sums.{sum_by-cons, sum_by-le-sum_by}
 use Rattle.bddl_model.specs.declared.game.Mark.{Mark}
 use Rattle.bddl_model.specs.declared.game.Mark.TheVariants as marks
@@ -10,9 +11,8 @@ use Rattle.bddl_model.specs.declared.game.Test.{Test}
 use Rattle.bddl_model.specs.Board.{Board, same_mark}
 use Rattle.bddl_model.specs.Game.{Game, Action, opponent}
 use Rattle.bddl_model.specs.Layout.{Inputs, Sizes, anchor_bits, sizes_of, ply_at, plies_at, layout, end}
-use Rattle.bddl_model.specs.Limits.{IsGame}
 use Rattle.bddl_model.specs.Size.{action_units, ply_units, plies_units, line_units, filled_cells, units, gate_limit}
-use Rattle.symbol_cell.specs.Starts.{filled}
+use Rattle.symbol_cell.specs.Starts.{filled, cell_gates}
 use Rattle.symbol_cell.specs.Steps.{unit, parts}
 use Rattle.lifted_encode.specs.Chosen.{of_action, of_line, item_parts}
 use Rattle.lifted_encode.specs.Encoded.{setup_of}
@@ -99,12 +99,24 @@ times u n m some few =
     omega (arith, more, one, same, some)
 
 module _ (g : Game) (board : Board) (first : Side) (depth : ℕ) (l : Inputs) where
-  pub parts_are_few : IsGame g → l ≡ layout g first depth → run_parts g board l.plies + condition_parts g depth l.plies + 1 ≤ units g board first depth
-  parts_are_few _ laid = subst (λ m. run_parts g board m.plies + condition_parts g depth m.plies + 1 ≤ units g board first depth) (sym laid) (few_in_layout g board first depth)
+  parts_are_few : l ≡ layout g first depth → run_parts g board l.plies + condition_parts g depth l.plies + 1 ≤ units g board first depth
+  parts_are_few laid = subst (λ m. run_parts g board m.plies + condition_parts g depth m.plies + 1 ≤ units g board first depth) (sym laid) (few_in_layout g board first depth)
 
-  pub gates_are_few : IsGame g → l ≡ layout g first depth → unit (anchor_bits g) * (run_parts g board l.plies + condition_parts g depth l.plies) + 1 ≤ gate_limit (setup_of g board first depth)
+  pub gates_are_few : l ≡ layout g first depth → unit (anchor_bits g) * (run_parts g board l.plies + condition_parts g depth l.plies) + 1 ≤ gate_limit (setup_of g board first depth)
   unfolding gate_limit
-  gates_are_few is laid = times (unit (anchor_bits g)) (run_parts g board l.plies + condition_parts g depth l.plies) (units g board first depth) (omega arith) (parts_are_few is laid)
+  gates_are_few laid = times (unit (anchor_bits g)) (run_parts g board l.plies + condition_parts g depth l.plies) (units g board first depth) (omega arith) (parts_are_few laid)
+
+-- ---- what parts take, added up
 
 pub split_gates : (u x y : ℕ) → u * (x + y) ≡ u * x + u * y
 split_gates u x y = grind arith
+
+pub more : (u i : ℕ) → u * (i + 1) ≡ u * i + u
+more u i = grind arith
+
+pub share : (u i n : ℕ) → i < n → u * i + u ≤ u * n
+share u i n lt = let step = mul-le-mul_left {m = i + 1} {n = n} u (omega arith) in omega (arith, more u i, step)
+
+-- the start's gates are within its parts, and leave those of the steps
+pub start_within : (b cells steps : ℕ) → cell_gates b * cells + unit b * steps ≤ unit b * (cells + steps)
+start_within b cells steps = let few = mul-le-mul_right {m = cell_gates b} {n = unit b} cells (omega arith) in omega (arith, few, split_gates (unit b) cells steps)

@@ -17,7 +17,7 @@ use Rattle.lifted_encode.specs.Asking.{unrefuted, found_met}
 use Rattle.lifted_encode.specs.Joined as joined
 use Rattle.lifted_encode.specs.Telling.{mark_below, ply_passes, plies_pass, ply_refused, one_refused}
 use Rattle.lifted_encode.proofs.Carrying.{side_of_ply}
-use Rattle.lifted_encode.proofs.Meeting.{and_associates}
+use Rattle.lifted_encode.proofs.Booleans.{and_associates, not_not, or_false, or_true}
 
 -- ---- tests of all numbers below one
 
@@ -37,10 +37,6 @@ same_below zero one other same = refl
 same_below (suc n) one other same = ap₂ (λ x y. x && y) (same n) (same_below n one other same)
 
 -- ---- plies, one after the other
-
-or_false : (b : Bool) → (b || false) ≡ b
-or_false true = refl
-or_false false = refl
 
 module _ (g : Game) (a : Assignment) (time : ℕ) (place : Cell) (marks : ℕ → Mark) where
   -- at the time and behind it nothing is asked of a ply
@@ -109,21 +105,13 @@ module _ (g : Game) (a : Assignment) (time : ℕ) (place : Cell) (marks : ℕ �
 mark_is : (count : ℕ) (marks : ℕ → Mark) (time : ℕ) → time < count → mark_below count marks time ≡ marks time
 mark_is count marks time lt = rw (lt-ltb time count lt) refl
 
-or_not_true : (b : Bool) → (not (not b) || false) ≡ b
-or_not_true true = refl
-or_not_true false = refl
-
-or_true : (b : Bool) → (b || true) ≡ true
-or_true true = refl
-or_true false = refl
-
 module _ (depth time refuting : ℕ) (place : Cell) (marks : ℕ → Mark) (le : time ≤ depth) where
   answered : (line : Option (List PlacedTest)) (said : ℕ)
       → (not (found_met (unrefuted refuting) place (mark_below depth marks said) line) || not (nat_lt said time))
       ≡ model.is_answered marks (record { line = line; time = said }) time refuting place
   answered None said = refl
   answered (Some ts) said = elim (cases_lt said time) [
-    | inl lt ↦ rw (lt-ltb said time lt, mark_is depth marks said (omega arith)) (or_not_true (one_fails_at place (marks said) refuting ts))
+    | inl lt ↦ rw (lt-ltb said time lt, mark_is depth marks said (omega arith)) (or_false (not (not (one_fails_at place (marks said) refuting ts))) ∙ not_not (one_fails_at place (marks said) refuting ts))
     | inr behind ↦ rw (le-ltb said time behind) (or_true (not (not (one_fails_at place (mark_below depth marks said) refuting ts))))
   ]
 

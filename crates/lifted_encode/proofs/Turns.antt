@@ -1,7 +1,6 @@
 -- What a run's place and marks are in a circuit that grows, and one ply more.
-use Rattle.std.proofs.Common.{◌≡◌, ℕ, suc, ◌<◌, ◌≤◌, ◌+◌, ◌*◌, Bool, true, false, not, ◌&&◌, ◌||◌, ◌==◌, nat_le, nat_lt, List, [], length, get_or, drop, Option, None, Some, refl, sym, ap, ap₂, subst, ◌∙◌, arith}
+use Rattle.std.proofs.Common.{◌≡◌, ℕ, suc, ◌<◌, ◌+◌, ◌*◌, Bool, not, ◌&&◌, ◌||◌, ◌==◌, nat_le, nat_lt, List, [], length, get_or, drop, Option, None, Some, refl, sym, ap, ap₂, subst, ◌∙◌, arith}
 use Rattle.std.specs.Prelude.{slice_get}
-use Rattle.std.proofs.Math.Nat.{mul-le-mul_left, mul-le-mul_right}
 use Rattle.std.proofs.lemmas.Bool.Decides.{nat_tests}
 use Rattle.std.proofs.lemmas.List.{append-nil, drop_more}
 use Rattle.bddl_model.specs.declared.circuit.Wire.{Wire}
@@ -23,13 +22,12 @@ use Rattle.bddl_model.proofs.WireWords.{word_stays, word_kept}
 use Rattle.symbol_cell.specs.declared.pair.Pair.{Pair}
 use Rattle.symbol_cell.specs.Pairs.{IsPair, mark_of}
 use Rattle.symbol_cell.specs.Runs.{Run, Stands, place_named}
-use Rattle.symbol_cell.specs.Starts.{cell_gates}
 use Rattle.symbol_cell.specs.Steps.{unit}
 use Rattle.symbol_cell.proofs.Following.{found_pair}
 use Rattle.symbol_cell.proofs.Steps.{pair_stays, mark_kept}
 use Rattle.lifted_encode.specs.Asking.{all_pass, unrefuted, found_met}
 use Rattle.lifted_encode.specs.Telling.{mark_in, marks_of, ply_passes, plies_pass, ply_refused, one_refused, action_parts, refused_in, refused_parts}
-use Rattle.lifted_encode.proofs.Meeting.{and_associates}
+use Rattle.lifted_encode.proofs.Booleans.{and_associates, or_associates}
 use Rattle.lifted_encode.proofs.Found.{found_pass, found_refused}
 
 -- ---- a run in a circuit that grows
@@ -67,10 +65,6 @@ exactly n k m reached below e f same = rw (e, f, same) (numbers n k)
     numbers n k = grind (arith, nat_tests)
 
 -- ---- one ply more
-
-or_associates : (x y z : Bool) → ((x || y) || z) ≡ (x || (y || z))
-or_associates true y z = refl
-or_associates false y z = refl
 
 module _ (g : Game) (a : Assignment) (time : ℕ) (place : Cell) (marks : ℕ → Mark) (i : ℕ) (plies : List PlyBits) (none : PlyBits) (lt : i < length plies) (known after whole : Bool) where
   up : i + 1 ≡ suc i
@@ -134,16 +128,3 @@ module _ (g : Game) (a : Assignment) (i : ℕ) (p : PlyBits) (s t : ℕ) (c d : 
 
 pub no_growth : (c : Circuit) → Grows 0 c c
 no_growth c = record { inputs = refl; gates = ([], sym (append-nil c.gates)); least = omega arith; room = omega arith; wires = λ w is. is; kept = λ w a is. refl }
-
-pub more : (u i : ℕ) → u * (i + 1) ≡ u * i + u
-more u i = grind arith
-
-pub share : (u i n : ℕ) → i < n → u * i + u ≤ u * n
-share u i n lt = let step = mul-le-mul_left {m = i + 1} {n = n} u (omega arith) in omega (arith, more u i, step)
-
--- the start's gates are within its parts, and leave those of the steps
-pub start_within : (b cells steps : ℕ) → cell_gates b * cells + unit b * steps ≤ unit b * (cells + steps)
-start_within b cells steps = let few = mul-le-mul_right {m = cell_gates b} {n = unit b} cells (omega arith) in omega (arith, few, parted (unit b) cells steps)
-  where
-    parted : (u x y : ℕ) → u * (x + y) ≡ u * x + u * y
-    parted u x y = grind arith

@@ -1,5 +1,5 @@
 -- What is asked, at the place, of the tests of an action or of a goal line.
-use Rattle.std.specs.Prelude.{ℕ, suc, ◌≤◌, ◌+◌, ◌*◌, Bool, true, false, not, ◌&&◌, ◌==◌, List, [], ◌∷◌, length, Option, None, Some}
+use Rattle.std.specs.Prelude.{ℕ, suc, ◌≤◌, Bool, true, false, not, ◌&&◌, ◌==◌, List, [], ◌∷◌, length, Option, None, Some}
 use Rattle.std.specs.List.{list_all}
 use Rattle.bddl_model.specs.declared.game.Mark.{Mark}
 use Rattle.bddl_model.specs.declared.game.Test.{Test}

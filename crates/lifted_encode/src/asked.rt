@@ -82,24 +82,23 @@ fn passes_here(alloc: Global, dag: &mut Dag, test: Test, spot: Spot) -> Result<W
     or(dag, elsewhere, passed)
 }
 
+// The test that passes where this one fails.
+fn opposite(test: Test) -> Test
+    ensures { result ≡ record test { negated = not test.negated } }
+{
+    Test {
+        atom: test.atom,
+        negated: !test.negated,
+    }
+}
+
 // A wire that holds where a test fails, or its cell isn't the place.
 fn fails_here(alloc: Global, dag: &mut Dag, test: Test, spot: Spot) -> Result<Wire, NoMemory>
     requires spot { IsSpot dag.old spot }
     requires room { HasRoom dag.old (8 * length spot.cells.place.now + 34) }
     ensures { Makes (8 * length spot.entry.cells.place.now + 34) dag.old dag.new result (λ a. fails_at (place_of dag.old spot.entry.cells a) (mark_of dag.old spot.entry.mark a) (placed (anchor_of dag.old spot.entry.cells a) test)) }
 {
-    let cells = spot.cells;
-    let here = touches(
-        alloc,
-        dag,
-        test.atom,
-        cells.anchor,
-        cells.x_bits,
-        cells.place,
-    )?;
-    let passed = passes(dag, spot.mark, test)?;
-    let (elsewhere, failed) = (dag.not(here), dag.not(passed));
-    or(dag, elsewhere, failed)
+    passes_here(alloc, dag, opposite(test), spot)
 }
 
 // A wire that holds where the word is the test's number and the test fails, or its cell isn't the

@@ -6,13 +6,13 @@ ghost use Rattle.bddl_model.specs.Prenex.{Cover};
 ghost use Rattle.bddl_model.specs.declared.formula.Quant.TheVariants as quant;
 
 use crate::forms::assert_text;
-use bddl_model::{NoMemory, Wire};
+use bddl_model::{Lit, NoMemory, Var, Wire};
 use circuit_dag::Dag;
 use prenexer::{Block, Quant, Span, prefix_of};
 use qbf_form::Form;
 use std::alloc::Global;
 use std::test::Fail;
-use tseitin::to_clauses;
+use tseitin::{GateClause, clause_at, clause_count, to_clauses};
 
 fn block(quant: Quant, from: u32, len: u32) -> Block
     ensures { result ≡ spec.block quant (spec.span from len) }
@@ -78,5 +78,32 @@ fn truth_without_inputs_is_an_output(rt: HostRuntime) -> Result<(), Fail> {
     let dag = Dag::new(rt.alloc(), 0)?;
     let form = form_of(rt.alloc(), &[], &dag, dag.truth())?;
     assert_text(&rt, rt.alloc(), &form, b"p cnf 1 2\ne 1 0\n1 0\n1 0\n");
+    Ok(())
+}
+
+fn positive(number: u32) -> Lit {
+    Lit::positive(Var(number))
+}
+
+fn negative(number: u32) -> Lit {
+    positive(number).negation()
+}
+
+#[test]
+fn a_clause_is_found_by_its_number(rt: HostRuntime) -> Result<(), Fail> {
+    let mut dag = Dag::new(rt.alloc(), 2)?;
+    let no_second = dag.not(dag.input(2));
+    let both = dag.and(dag.input(1), no_second)?;
+    let clauses = [
+        GateClause::One(positive(3)),
+        GateClause::Two(negative(4), positive(1)),
+        GateClause::Two(negative(4), negative(2)),
+        GateClause::Three(positive(4), negative(1), positive(2)),
+        GateClause::One(positive(4)),
+    ];
+    assert_eq!(rt; clause_count(&dag), 5);
+    for (number, clause) in clauses.iter().enumerate() {
+        assert_eq!(rt; clause_at(&dag, both, number as u64), *clause);
+    }
     Ok(())
 }

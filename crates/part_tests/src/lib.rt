@@ -10,6 +10,8 @@ mod clauses;
 #[cfg(test)]
 mod codes;
 #[cfg(test)]
+mod compiled;
+#[cfg(test)]
 mod forms;
 #[cfg(test)]
 mod gates;

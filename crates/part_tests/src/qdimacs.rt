@@ -1,7 +1,8 @@
 // The texts of small forms, and a sink that fails.
 use crate::forms::{assert_text, form_of};
-use io_edge::{MemorySink, SinkEnd};
-use qdimacs_io::write_qdimacs;
+use io_edge::{MemorySink, Sink, SinkEnd, SteadySink};
+use qbf_form::Form;
+use qdimacs_io::{write_clause, write_head, write_qdimacs};
 use std::test::Fail;
 
 const VARIABLES: &[i32] = &[-3, 1, 12, -2];
@@ -14,6 +15,27 @@ const THREE_BLOCKS: &[u8] = b"p cnf 12 3\na 3 0\ne 1 12 0\na 2 0\n-12 3 -1 0\n0\
 fn blocks_and_clauses_have_their_lines(rt: HostRuntime) -> Result<(), Fail> {
     let form = form_of(&rt, rt.alloc(), VARIABLES, CLAUSES)?;
     assert_text(&rt, rt.alloc(), &form, THREE_BLOCKS);
+    Ok(())
+}
+
+fn write_in_parts<K: Sink>(form: &Form, sink: &mut K) -> Result<(), SinkEnd> {
+    write_head(form.prefix(), form.clauses(), sink)?;
+    for number in 0..form.clauses() {
+        write_clause(form.clause(number), sink)?;
+    }
+    Ok(())
+}
+
+#[test]
+fn the_head_and_each_clause_are_written_alone(rt: HostRuntime) -> Result<(), Fail> {
+    let form = form_of(&rt, rt.alloc(), VARIABLES, CLAUSES)?;
+    let mut sink = SteadySink::new(rt.alloc());
+    assert_eq!(rt; write_in_parts(&form, &mut sink), Ok(()));
+    assert_eq!(rt; sink.bytes(), THREE_BLOCKS);
+    let mut sink = MemorySink::new(rt.alloc());
+    sink.fail_at(3, 1)?;
+    assert_eq!(rt; write_in_parts(&form, &mut sink), Err(SinkEnd::Failed));
+    assert_eq!(rt; Some(sink.bytes()), THREE_BLOCKS.get(..44));
     Ok(())
 }
 

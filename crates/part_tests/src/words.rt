@@ -6,7 +6,9 @@ ghost use Rattle.bddl_model.specs.Words.{AreWires};
 
 use crate::wires::{bit, word};
 use bddl_model::{NoMemory, Wire};
-use bit_arith::{add_const, all_of, any_of, at_least, at_most, choose, equal, equal_const};
+use bit_arith::{
+    add_const, all_of, any_of, at_least, at_most, choose, equal, equal_const, less, or_both,
+};
 use circuit_dag::Dag;
 use std::alloc::Global;
 use std::process::Abort;
@@ -19,6 +21,7 @@ enum Question {
     EqualConst,
     AtLeast,
     AtMost,
+    Less,
     All,
     Any,
 }
@@ -42,6 +45,7 @@ fn answer(
         Question::EqualConst => equal_const(dag, word, number),
         Question::AtLeast => at_least(dag, word, number),
         Question::AtMost => at_most(dag, word, number),
+        Question::Less => less(dag, word, other),
         Question::All => all_of(dag, word),
         Question::Any => any_of(dag, word),
     }
@@ -55,6 +59,7 @@ fn is_so(question: Question, a: u32, b: u32, count: u32) -> bool {
         Question::EqualConst => a == b,
         Question::AtLeast => a >= b,
         Question::AtMost => a <= b,
+        Question::Less => a < b % limit.max(1),
         Question::All => a == limit.wrapping_sub(1),
         Question::Any => a != 0,
     }
@@ -103,6 +108,7 @@ fn numbers_of_words_are_compared(rt: HostRuntime) -> Result<(), Fail> {
         Question::EqualConst,
         Question::AtLeast,
         Question::AtMost,
+        Question::Less,
         Question::All,
         Question::Any,
     ] {
@@ -177,6 +183,28 @@ fn one_of_two_wires_is_chosen(rt: HostRuntime) -> Result<(), Fail> {
         (false, false, true, true),
     ] {
         assert!(rt; choice_is(rt.alloc(), s, a, b, chosen)?);
+    }
+    Ok(())
+}
+
+fn one_or_both_is(
+    alloc: Global,
+    known: bool,
+    a: bool,
+    b: bool,
+    holds: bool,
+) -> Result<bool, NoMemory> {
+    let mut dag = Dag::new(alloc, 0)?;
+    let (first, second, third) = (bit(&dag, known), bit(&dag, a), bit(&dag, b));
+    let wire = or_both(&mut dag, first, second, third)?;
+    Ok(wire == bit(&dag, holds))
+}
+
+#[test]
+fn one_wire_or_both_of_two_hold(rt: HostRuntime) -> Result<(), Fail> {
+    for number in 0..8 {
+        let (known, a, b) = (number % 2 == 1, number / 2 % 2 == 1, number / 4 == 1);
+        assert!(rt; one_or_both_is(rt.alloc(), known, a, b, known || a && b)?);
     }
     Ok(())
 }

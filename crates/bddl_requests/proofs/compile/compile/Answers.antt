@@ -1,11 +1,11 @@
 use Rattle.std.proofs.Common.{Ok, Err, subst}
 use Rattle.std.proofs.lemmas.Result.{err_from_is_err_and}
 use Rattle.bddl_model.specs.Outcome.{CompileEnds, GameThen}
-use Rattle.bddl_requests.specs.Ends.{Nothing, content_told}
+use Rattle.request_parts.specs.Ends.{Nothing, content_told}
 use Rattle.strategy.specs.Written.{WritesForm}
 use Rattle.bddl_requests.proofs.Built.{form_is_written, form_is_cut}
-use Rattle.bddl_requests.proofs.Games.{game_then}
-use Rattle.bddl_requests.proofs.Stopping.{stops_in, stops_writing}
+use Rattle.request_parts.proofs.Games.{game_then}
+use Rattle.request_parts.proofs.Stopping.{stops_in, stops_writing}
 use Rattle.bddl_requests.proofs.compile.compile.Goals as goal
 
 pub returns-in_err-setup-clause-written : goal.returns-in_err-setup-clause-written

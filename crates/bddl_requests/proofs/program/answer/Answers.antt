@@ -2,7 +2,7 @@ use Rattle.std.proofs.Common.{map}
 use Rattle.bddl_model.specs.declared.command.Command.TheVariants.{Compile, FormatDomain, FormatProblem}
 use Rattle.bddl_model.specs.Request.{limits_of}
 use Rattle.bddl_requests.proofs.Answered.{one_file, two_files, written_by}
-use Rattle.bddl_requests.proofs.Files.{within_length}
+use Rattle.request_parts.proofs.Files.{within_length}
 use Rattle.bddl_requests.proofs.program.answer.Goals as goal
 
 pub returns-in-Compile-clause-written : goal.returns-in-Compile-clause-written

@@ -1,9 +1,9 @@
 use Rattle.std.proofs.Common.{Err, map, subst, true}
 use Rattle.std.proofs.lemmas.Result.{err_from_is_err_and}
 use Rattle.bddl_model.specs.Outcome.{ContentEnds}
-use Rattle.bddl_requests.specs.Ends.{Writes, content_told}
-use Rattle.bddl_requests.specs.declared.refusal.Close.{Close}
-use Rattle.bddl_requests.specs.Seen.{seen}
+use Rattle.request_parts.specs.Ends.{Writes, content_told}
+use Rattle.request_parts.specs.declared.refusal.Close.{Close}
+use Rattle.request_parts.specs.Seen.{seen}
 use Rattle.bddl_requests.proofs.Answered.{no_write, request_done, request_stopped, request_unread}
 use Rattle.bddl_requests.proofs.program.carry_out.Goals as goal
 

@@ -1,7 +1,7 @@
 use Rattle.std.proofs.Common.{◌∙◌, [], Err, ap, arith, false, inl, inr, refl, true}
-use Rattle.bddl_requests.specs.Ends.{closed, refusal_told}
-use Rattle.bddl_requests.specs.declared.refusal.Close.{Close}
-use Rattle.bddl_requests.specs.declared.refusal.Stop.TheVariants.{Refused}
+use Rattle.request_parts.specs.Ends.{closed, refusal_told}
+use Rattle.request_parts.specs.declared.refusal.Close.{Close}
+use Rattle.request_parts.specs.declared.refusal.Stop.TheVariants.{Refused}
 use Rattle.bddl_requests.proofs.Answered.{carried_out, close_is_no_refusal, cut_answers, nothing_is_written, refusal_is_no_result, refusal_status, status_of_read, status_of_words, told_answers, told_or_cut, words_refused}
 use Rattle.bddl_requests.proofs.program.run.Goals as goal
 

@@ -1,13 +1,15 @@
-use Rattle.std.proofs.Common.{ap, ap₂, ◌∙◌, not, ◌||◌, arith}
-use Rattle.bddl_model.proofs.Growth.{grows_then, makes_after}
-use Rattle.lifted_encode.proofs.Meeting.{test_here, test_passed}
+use Rattle.std.proofs.Common.{ap, ◌∙◌, arith}
+use Rattle.bddl_model.specs.Conditions.{passes_at}
+use Rattle.symbol_cell.specs.Pairs.{mark_of}
+use Rattle.symbol_cell.specs.Steps.{anchor_of, place_of}
+use Rattle.lifted_encode.specs.Asking.{placed}
+use Rattle.lifted_encode.proofs.Meeting.{opposite_fails}
+use Rattle.lifted_encode.proofs.Reading.{makes_as}
 use Rattle.lifted_encode.proofs.asked.fails_here.Goals as goal
 
 pub returns : goal.returns
-returns c =
-    let touched = c.in_ok-here.ensures in
-    let shown = c.in_ok-passed.ensures in
-    makes_after (grows_then touched.grows shown.grows) c.or.ensures (omega arith) (λ a.
-    ap₂ (λ x y. x || y)
-    (c.not-elsewhere.ensures.value a ∙ ap not (test_here c.args.spot c.args.test c.in_ok-here.here c.in_ok-passed.passed a touched.grows shown.grows c.requires.spot touched.wire (touched.value a)))
-    (c.not-failed.ensures.value a ∙ ap not (test_passed c.args.spot c.args.test c.in_ok-here.here c.in_ok-passed.passed a touched.grows shown.grows c.requires.spot (shown.value a))))
+returns c = makes_as c.passes_here.ensures (omega arith) (λ a.
+    let spot = c.args.spot in
+    let dag = c.args.dag.now in
+    ap (λ t. passes_at (place_of dag spot.cells a) (mark_of dag spot.mark a) (placed (anchor_of dag spot.cells a) t)) c.opposite.ensures
+    ∙ opposite_fails (place_of dag spot.cells a) (anchor_of dag spot.cells a) (mark_of dag spot.mark a) c.args.test)

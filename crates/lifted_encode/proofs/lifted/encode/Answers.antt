@@ -25,7 +25,7 @@ follow-requires-clause-room c =
     let size = c.keeps_the_size.ensures.marks ∙ ap₂ (λ h w. h * w) c.requires.board.1 c.requires.board.0 in
     let gates = c.sizes_have_limits.ensures.gates s c.keeps_the_limits.ensures size c.requires.depth in
     let inputs = c.sizes_have_limits.ensures.inputs s c.keeps_the_limits.ensures c.requires.depth in
-    let few = gates_are_few g board c.args.first c.args.depth l c.keeps_the_limits.ensures c.in_ok-layout.ensures in
+    let few = gates_are_few g board c.args.first c.args.depth l c.in_ok-layout.ensures in
     let split = split_gates (unit (anchor_bits g)) (run_parts g board l.plies) (condition_parts g c.args.depth l.plies) in
     let first = c.in_ok-dag.ensures.inputs ∙ ap (λ (t : Inputs). t.inputs) (c.layout.view_is ∙ c.in_ok-layout.ensures) in
     omega (arith, gates, inputs, few, split, first, ap length c.in_ok-dag.ensures.gates)
@@ -51,7 +51,7 @@ conditions-requires-clause-room c =
     let size = c.keeps_the_size.ensures.marks ∙ ap₂ (λ h w. h * w) c.requires.board.1 c.requires.board.0 in
     let gates = c.sizes_have_limits.ensures.gates s c.keeps_the_limits.ensures size c.requires.depth in
     let inputs = c.sizes_have_limits.ensures.inputs s c.keeps_the_limits.ensures c.requires.depth in
-    let few = gates_are_few g board c.args.first c.args.depth l c.keeps_the_limits.ensures c.in_ok-layout.ensures in
+    let few = gates_are_few g board c.args.first c.args.depth l c.in_ok-layout.ensures in
     let split = split_gates (unit (anchor_bits g)) (run_parts g board l.plies) (condition_parts g c.args.depth l.plies) in
     let first = c.in_ok-dag.ensures.inputs ∙ ap (λ (t : Inputs). t.inputs) (c.layout.view_is ∙ c.in_ok-layout.ensures) in
     omega (arith, gates, inputs, few, split, first, ap length c.in_ok-dag.ensures.gates, c.in_ok-run.ensures.grows.room)
@@ -78,6 +78,6 @@ returns-clause-small c =
     let g = c.args.game.now in
     let board = c.args.board.now.marks in
     let l = c.in_ok-layout.layout in
-    let few = gates_are_few g board c.args.first c.args.depth l c.keeps_the_limits.ensures c.in_ok-layout.ensures in
+    let few = gates_are_few g board c.args.first c.args.depth l c.in_ok-layout.ensures in
     let split = split_gates (unit (anchor_bits g)) (run_parts g board l.plies) (condition_parts g c.args.depth l.plies) in
     omega (arith, few, split, ap length c.in_ok-dag.ensures.gates, c.in_ok-run.ensures.grows.room, c.in_ok-out.ensures.grows.room, c.in_ok-run.ensures.grows.inputs, c.in_ok-out.ensures.grows.inputs)

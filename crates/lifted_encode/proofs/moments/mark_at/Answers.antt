@@ -9,7 +9,8 @@ use Rattle.symbol_cell.proofs.Following.{stands_kept}
 use Rattle.bddl_model.specs.Circuit.{holds}
 use Rattle.lifted_encode.specs.Telling.{marks_of}
 use Rattle.lifted_encode.proofs.Marking.{moment_turn}
-use Rattle.lifted_encode.proofs.Turns.{marks_kept, more, share}
+use Rattle.lifted_encode.proofs.Shares.{more, share}
+use Rattle.lifted_encode.proofs.Turns.{marks_kept}
 use Rattle.lifted_encode.proofs.moments.mark_at.Goals as goal
 
 pub also_mark-requires-clause-known : goal.also_mark-requires-clause-known

@@ -12,7 +12,7 @@ use Rattle.lifted_encode.specs.Telling.{IsPlyOf}
 use Rattle.lifted_encode.proofs.Carrying.{carries_stay}
 use Rattle.lifted_encode.proofs.Laid.{plies_stay}
 use Rattle.lifted_encode.proofs.Reading.{slice_length}
-use Rattle.lifted_encode.proofs.Turns.{start_within}
+use Rattle.lifted_encode.proofs.Shares.{start_within}
 use Rattle.lifted_encode.proofs.run.follow.Goals as goal
 
 pub start-requires-clause-place_bits : goal.start-requires-clause-place_bits

@@ -1,0 +1,5 @@
+pub mod Done
+pub mod Files
+pub mod Stopping
+pub mod Games
+pub mod Numbers

@@ -1,0 +1,40 @@
+// The requests `help` and `version`.
+ghost use Rattle.bddl_model.specs.About.{help_text, version_text};
+ghost use Rattle.bddl_model.specs.Outcome.{Says};
+ghost use Rattle.io_edge.specs.Outside.{Counts};
+ghost use Rattle.request_parts.specs.Ends.{Writes, content_told, is_write_fault};
+
+use crate::refusal::{Close, Content, Stop};
+use io_edge::{Sink, put_text};
+
+/// Writes what the requests and the statuses are.
+pub fn help<K: Sink>(out: &mut K) -> Result<Close, Stop<Content>>
+    ensures written { Writes content_told (Says help_text) (K.written out.old) (K.written out.new) result }
+    ensures cause { Counts (K.faults out.old) (K.faults out.new) (is_write_fault result) }
+{
+    put_text(
+        out,
+        b"bddl compile DOMAIN PROBLEM   writes the formula of a game\n\
+        bddl fmt-domain DOMAIN        writes the canonical text of a domain\n\
+        bddl fmt-problem PROBLEM      writes the canonical text of a problem\n\
+        bddl help, bddl --help        writes this text\n\
+        bddl version, bddl --version  writes the name, and the kit that proved the program\n\
+        \n\
+        0  the text was written\n\
+        1  there is no such request\n\
+        2  a file is refused\n\
+        3  a file could not be read\n\
+        4  a write failed\n\
+        5  memory ran out\n",
+    )?;
+    Ok(Close::Done)
+}
+
+/// Writes the program's name and the kit that proved it.
+pub fn version<K: Sink>(out: &mut K) -> Result<Close, Stop<Content>>
+    ensures written { Writes content_told (Says version_text) (K.written out.old) (K.written out.new) result }
+    ensures cause { Counts (K.faults out.old) (K.faults out.new) (is_write_fault result) }
+{
+    put_text(out, b"bddl, rattle-kit-13f logic dac8208d650f15bf\n")?;
+    Ok(Close::Done)
+}

@@ -1,0 +1,174 @@
+// The notes: what is told of a request that was not carried out.
+ghost use Rattle.std.specs.Prelude.{◌≡◌, ◌≢◌, ◌<◌, IfOk, string_bytes};
+ghost use Rattle.bddl_model.specs.Notes.{place_note, check_note, check_words, fault_words, side_name, axis_name, item_text, limit_words};
+ghost use Rattle.request_parts.specs.Ends.{content_told, refusal_told, text_name};
+ghost use Rattle.bddl_model.specs.declared.check.CheckFault.TheVariants.{NoMemory as no_fault};
+
+use crate::game_fault::GameFault;
+use crate::refusal::{Content, FileEnd, GameText, Refusal};
+use bddl_model::{Axis, CheckFault, GREATEST_SIDE, Item, LexFault, Part, Place, ReadFault, Side};
+use std::alloc::{AllocError, Global};
+
+/// The exit status that a refusal ends with.
+pub fn status_of(refusal: Refusal) -> u8
+    ensures status { result ≡ (refusal_told refusal).status }
+    ensures few { result < 4 }
+{
+    match refusal {
+        Refusal::NoRequest => 1,
+        Refusal::File {
+            end: FileEnd::ReadFault,
+            ..
+        } => 3,
+        Refusal::File { .. } | Refusal::Content(_) => 2,
+    }
+}
+
+/// The line that tells a refusal.
+pub fn note_of(alloc: Global, refusal: Refusal) -> Result<String, AllocError>
+    ensures { IfOk result (λ text. string_bytes text ≡ (refusal_told refusal).note) }
+{
+    match refusal {
+        Refusal::NoRequest => format!(in alloc; "no such request\n"),
+        Refusal::File { word, end } => file_text(alloc, word, end),
+        Refusal::Content(content) => content_text(alloc, content),
+    }
+}
+
+fn file_text(alloc: Global, word: usize, end: FileEnd) -> Result<String, AllocError>
+    ensures { IfOk result (λ text. string_bytes text ≡ (refusal_told (Refusal.File word end)).note) }
+{
+    match end {
+        FileEnd::ReadFault => format!(in alloc; "word {word}: read fault\n"),
+        FileEnd::TooLong(most) => format!(in alloc; "word {word}: longer than {most} bytes\n"),
+    }
+}
+
+fn content_text(alloc: Global, content: Content) -> Result<String, AllocError>
+    ensures { IfOk result (λ text. string_bytes text ≡ (content_told content).note) }
+{
+    match content {
+        Content::Text { text, place, fault } => {
+            place_text(alloc, text, place, fault_words(fault))
+        }
+        Content::Check(fault) => check_text(alloc, fault),
+    }
+}
+
+fn place_text(
+    alloc: Global,
+    text: GameText,
+    place: Place,
+    words: &str,
+) -> Result<String, AllocError>
+    ensures { IfOk result (λ line. string_bytes line ≡ place_note (text_name text) place words.now) }
+{
+    let line = place.line;
+    let column = place.column;
+    match text {
+        GameText::Domain => format!(in alloc; "domain:{line}:{column}: {words}\n"),
+        GameText::Problem => format!(in alloc; "problem:{line}:{column}: {words}\n"),
+    }
+}
+
+fn fault_words(fault: ReadFault) -> &'static str
+    ensures { result.now ≡ fault_words fault }
+{
+    match fault {
+        ReadFault::Lex(LexFault::BadByte { .. }) => "bad byte",
+        ReadFault::Lex(LexFault::NameTooLong { .. }) => "name too long",
+        ReadFault::Lex(LexFault::NumberTooLong { .. }) => "number too long",
+        ReadFault::Unexpected { .. } => "unexpected word",
+        ReadFault::EndsEarly { .. } => "text ends early",
+        ReadFault::Lex(LexFault::NoMemory) | ReadFault::NoMemory => "",
+    }
+}
+
+// The line that tells a fault of a game.
+fn check_text(alloc: Global, fault: GameFault) -> Result<String, AllocError>
+    ensures { IfOk result (λ line. string_bytes line ≡ check_note fault.fault) }
+{
+    let words = check_words(alloc, fault.fault)?;
+    format!(in alloc; "check: {words}\n")
+}
+
+fn check_words(alloc: Global, fault: CheckFault) -> Result<String, AllocError>
+    requires { fault ≢ no_fault }
+    ensures { IfOk result (λ words. string_bytes words ≡ check_words fault) }
+{
+    match fault {
+        CheckFault::SizeOutOfRange { axis, said } => {
+            format!(in alloc; "{} {said} is not 1 to {GREATEST_SIDE}", axis_name(axis))
+        }
+        CheckFault::DepthOutOfRange { said } => format!(in alloc; "depth {said} is over 31"),
+        CheckFault::TooManyActions { side, found } => {
+            format!(in alloc; "{} actions: {found} are over 8", side_name(side))
+        }
+        CheckFault::TooManyAtoms { item, part, found } => {
+            let item = item_text(alloc, item)?;
+            format!(in alloc; "{item}: {found} {}", limit_words(part))
+        }
+        CheckFault::SameName { item, earlier } => {
+            let item = item_text(alloc, item)?;
+            format!(in alloc; "{item}: same name as action {earlier}")
+        }
+        CheckFault::NumberOffBoard { item, said } => {
+            let item = item_text(alloc, item)?;
+            format!(in alloc; "{item}: number {said} is off the board")
+        }
+        CheckFault::NeverOnBoard { item } => {
+            let item = item_text(alloc, item)?;
+            format!(in alloc; "{item}: never on the board")
+        }
+        CheckFault::CellTwice { item, x, y } => {
+            let item = item_text(alloc, item)?;
+            format!(in alloc; "{item}: cell {x} {y} is named twice")
+        }
+        CheckFault::TooManyLines { side, found } => {
+            format!(in alloc; "{} goals: {found} are over 256", side_name(side))
+        }
+        CheckFault::NoMemory => unreachable!(),
+    }
+}
+
+// The kind of an item, and its number.
+fn item_text(alloc: Global, item: Item) -> Result<String, AllocError>
+    ensures { IfOk result (λ text. string_bytes text ≡ item_text item) }
+{
+    match item {
+        Item::Action { side, number } => {
+            format!(in alloc; "{} action {number}", side_name(side))
+        }
+        Item::Init { number } => format!(in alloc; "init atom {number}"),
+        Item::Line { side, number } => format!(in alloc; "{} goal {number}", side_name(side)),
+    }
+}
+
+fn side_name(side: Side) -> &'static str
+    ensures { result.now ≡ side_name side }
+{
+    match side {
+        Side::Black => "black",
+        Side::White => "white",
+    }
+}
+
+fn axis_name(axis: Axis) -> &'static str
+    ensures { result.now ≡ axis_name axis }
+{
+    match axis {
+        Axis::Width => "width",
+        Axis::Height => "height",
+    }
+}
+
+// What a part has too many of.
+fn limit_words(part: Part) -> &'static str
+    ensures { result.now ≡ limit_words part }
+{
+    match part {
+        Part::Before => "preconditions are over 8",
+        Part::Effects => "effects are over 4",
+        Part::Line => "atoms are over 16",
+    }
+}
