@@ -1,4 +1,5 @@
 mod Examples
+mod ReadingExamples
 pub mod Bits
 pub mod Truth
 pub mod Counted
@@ -7,6 +8,9 @@ pub mod Blocks
 pub mod Numbers
 pub mod Tseitin
 pub mod NumberLists
+pub mod NumbersApart
+pub mod FormulaPlaces
+pub mod FormulaReading
 pub mod PlainTexts
 pub mod PlainTokens
 pub mod WrittenForms

@@ -14,6 +14,9 @@ pub mod Words
 pub mod FormulaText
 pub mod FormulaWords
 pub mod Qdimacs
+pub mod FormulaPlaces
+pub mod FormulaFaults
+pub mod FormulaReading
 pub mod Game
 pub mod Board
 pub mod Fitting
