@@ -7,8 +7,8 @@ use Rattle.bddl_model.specs.declared.formula.Bound.{Bound}
 use Rattle.bddl_model.specs.Forms.{has_number, greatest_variables, prefix_variables, AllApart}
 use Rattle.bddl_model.proofs.Assignments.{eqb_turned}
 use Rattle.bddl_model.proofs.NumberLists.{AllPass-append, has_append}
+use Rattle.bddl_model.proofs.NumbersApart.{apart_push}
 use Rattle.qbf_form.specs.Places.{place_from, place_in, KeepsPlaces}
-use Rattle.qbf_form.proofs.Variables.{apart_push}
 
 place_low : (n : ℕ) (vs : List ℕ) (v : ℕ) → has_number vs v ≡ true → n ≤ place_from n vs v
 place_low n [] v h = absurd cc

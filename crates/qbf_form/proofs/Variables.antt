@@ -1,4 +1,4 @@
--- Variables that stand apart: with one more, how many there are at most, and that they keep their number in another order.
+-- Variables that stand apart: how many there are at most, and that they keep their number in another order.
 use Rattle.std.proofs.Common.{◌≡◌, ℕ, zero, suc, ◌+◌, ◌≤◌, ◌<◌, true, false, ◌||◌, List, [], ◌∷◌, ◌++◌, length, inl, inr, refl, sym, ap₂, ◌∙◌, arith, eqb-true, ne_eqb}
 use Rattle.std.specs.Prelude.{◌==◌, nat_eq}
 use Rattle.std.specs.List.{IsDistinct, AllByRecursion, list_any}
@@ -11,12 +11,6 @@ use Rattle.bddl_model.specs.Forms.{has_number, in_range, AllInRange, AllApart, A
 use Rattle.bddl_model.proofs.Assignments.{eqb_turned}
 use Rattle.bddl_model.proofs.NumberLists.{has_append, one_passes}
 use Rattle.bddl_model.proofs.PlainTokens.{in_range_is}
-
-pub apart_push : (vs : List ℕ) (v : ℕ) → AllApart vs → has_number vs v ≡ false → AllApart (vs ++ v ∷ [])
-apart_push [] v apart h = (refl, tt)
-apart_push (w ∷ ws) v apart h =
-    let parts = or_parts (w == v) (has_number ws v) h in
-    (has_append ws (v ∷ []) w ∙ or_from (has_number ws w) (has_number (v ∷ []) w) apart.0 (or_from (v == w) false (eqb_turned w v parts.0) refl), apart_push ws v apart.1 parts.1)
 
 apart_is_distinct : (vs : List ℕ) → AllApart vs → IsDistinct nat_eq vs
 unfolding IsDistinct

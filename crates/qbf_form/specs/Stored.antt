@@ -1,8 +1,6 @@
 -- Clauses that are kept as one list of literals and the list of their ends.
 use Rattle.std.specs.Prelude.{ℕ, zero, suc, ◌≡◌, ◌≤◌, ◌-◌, List, [], ◌∷◌, length, take, drop}
-use Rattle.bddl_model.specs.declared.formula.Bound.{Bound}
 use Rattle.bddl_model.specs.declared.formula.Lit.{Lit}
-use Rattle.bddl_model.specs.Forms.{AllFitPrefix}
 
 -- the clauses, the first of which starts here
 abbrev pub cut : ℕ → List ℕ → List Lit → List (List Lit)
@@ -19,7 +17,3 @@ start_from start (e ∷ ends) (suc n) = start_from e ends n
 abbrev pub EndsAt : ℕ → ℕ → List ℕ → Type 0
 EndsAt last start [] = start ≡ last
 EndsAt last start (e ∷ ends) = (start ≤ e) × EndsAt last e ends
-
-pub record KeepsClauses (prefix : List Bound) (ends : List ℕ) (literals : List Lit) : Type 0 where
-  pub last : EndsAt (length literals) 0 ends
-  pub fit : AllFitPrefix prefix (cut 0 ends literals)

@@ -1,8 +1,8 @@
 // A form: a prefix and clauses that fit it.
-ghost use Rattle.std.specs.Prelude.{◌≡◌, ◌<◌, ◌≤◌, ◌-◌, [], ◌∷◌, ◌++◌, length, take, drop, OnOk, OnErr, slice_index_or};
-ghost use Rattle.bddl_model.specs.Forms.{FitsPrefix, IsForm};
-ghost use Rattle.qbf_form.specs.Stored.{cut, start_from, EndsAt};
+ghost use Rattle.std.specs.Prelude.{◌≡◌, ◌<◌, [], ◌∷◌, ◌++◌, length, OnOk, OnErr, slice_index_or};
+ghost use Rattle.bddl_model.specs.Forms.{FitsPrefix, AllFitPrefix, IsForm};
 
+use crate::clauses::Clauses;
 use crate::prefix::Prefix;
 use bddl_model::{Lit, NoMemory};
 use std::alloc::Global;
@@ -13,47 +13,18 @@ use std::marker::Model;
 #[derive(Debug, Drop)]
 pub struct Form {
     prefix: Prefix,
-    // The literals of all clauses, one clause behind the other.
-    literals: Vec<Lit>,
-    // Where each clause ends among the literals.
-    ends: Vec<usize>,
+    clauses: Clauses,
 }
 
 impl Model for Form {
+    ghost use Rattle.bddl_model.specs.Forms.{AllFitPrefix};
     ghost use Rattle.bddl_model.specs.Truth.{Formula};
-    ghost use Rattle.qbf_form.specs.Stored.{cut, KeepsClauses};
 
     ghost Value = { Formula };
 
-    ghost view = { λ f. record { prefix = f.prefix; clauses = cut 0 f.ends.items f.literals.items } };
+    ghost view = { λ f. record { prefix = f.prefix; clauses = f.clauses } };
 
-    ghost invariant = { λ f. KeepsClauses f.prefix f.ends.items f.literals.items };
-}
-
-// Where a clause starts: where the one before it ends.
-fn start_of(ends: &[usize], number: usize) -> usize
-    requires { number < length ends.now }
-    ensures { result ≡ start_from 0 ends.now number }
-{
-    if number == 0 { 0 } else { ends[number - 1] }
-}
-
-// The literals from a start up to an end.
-fn part(literals: &[Lit], start: usize, end: usize) -> &[Lit]
-    requires order { start ≤ end }
-    requires within { end ≤ length literals.now }
-    ensures { result.now ≡ take (end - start) (drop start literals.now) }
-{
-    &literals[start..end]
-}
-
-// A clause of those that are cut from the literals.
-fn clause_of<'a>(ends: &[usize], literals: &'a [Lit], number: usize) -> &'a [Lit]
-    requires ends { EndsAt (length literals.now) 0 ends.now }
-    requires number { number < length ends.now }
-    ensures { result.now ≡ slice_index_or (cut 0 ends.now literals.now) number [] }
-{
-    part(literals, start_of(ends, number), ends[number])
+    ghost invariant = { λ f. AllFitPrefix f.prefix f.clauses };
 }
 
 impl Form {
@@ -63,9 +34,16 @@ impl Form {
     {
         Form {
             prefix,
-            literals: Vec::new(alloc),
-            ends: Vec::new(alloc),
+            clauses: Clauses::new(alloc),
         }
+    }
+
+    /// Of a prefix and clauses that are made already. Neither is copied.
+    pub fn of(prefix: Prefix, clauses: Clauses) -> Form
+        requires { AllFitPrefix prefix clauses }
+        ensures { result ≡ record { prefix = prefix; clauses = clauses } }
+    {
+        Form { prefix, clauses }
     }
 
     /// A law: each form keeps to what a formula keeps to that is decided.
@@ -81,10 +59,7 @@ impl Form {
         ensures ok { OnOk result (self.new ≡ record self.old { clauses = self.old.clauses ++ literals.now ∷ [] }) }
         ensures err { OnErr result (self.new ≡ self.old) }
     {
-        self.ends.reserve(1)?;
-        self.literals.extend_from_slice(literals)?;
-        self.ends.push_reserved(self.literals.len());
-        Ok(())
+        self.clauses.add(literals)
     }
 
     pub fn prefix(&self) -> &Prefix
@@ -97,7 +72,7 @@ impl Form {
     pub fn clauses(&self) -> u64
         ensures { result ≡ length self.now.clauses }
     {
-        self.ends.len() as u64
+        self.clauses.len()
     }
 
     /// The literals of a clause, in the order in which they were given.
@@ -106,6 +81,6 @@ impl Form {
         ensures literals { result.now ≡ slice_index_or self.now.clauses number [] }
         ensures fits { FitsPrefix self.now.prefix result.now }
     {
-        clause_of(&self.ends, &self.literals, number as usize)
+        self.clauses.clause(number)
     }
 }

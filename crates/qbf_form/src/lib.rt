@@ -5,6 +5,7 @@
 //! grows as the form does.
 #![tactic(auto)]
 
+mod clauses;
 mod form;
 mod marks;
 mod pairs;
@@ -12,5 +13,6 @@ mod prefix;
 mod tail;
 
 pub use bddl_model::Bound;
+pub use clauses::Clauses;
 pub use form::Form;
 pub use prefix::Prefix;

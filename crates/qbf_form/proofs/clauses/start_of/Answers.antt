@@ -1,7 +1,7 @@
 use Rattle.std.proofs.Common.{◌≡◌, ◌-◌, suc, ap, ◌∙◌, arith}
 use Rattle.qbf_form.specs.Stored.{start_from}
 use Rattle.qbf_form.proofs.Stored.{starts_at_end}
-use Rattle.qbf_form.proofs.form.start_of.Goals as goal
+use Rattle.qbf_form.proofs.clauses.start_of.Goals as goal
 
 pub returns-else-number-eq0 : goal.returns-else-number-eq0
 returns-else-number-eq0 c =
