@@ -1,0 +1,4 @@
+pub mod Scanning
+pub mod MarkSets
+pub mod States
+pub mod Answers
