@@ -3,3 +3,7 @@ pub mod Lines
 pub mod Numbers
 pub mod Scans
 pub mod Tables
+pub mod FreeVariables
+pub mod Literals
+pub mod Following
+pub mod TextForms
