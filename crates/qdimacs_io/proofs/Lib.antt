@@ -7,3 +7,4 @@ pub mod FreeVariables
 pub mod Literals
 pub mod Following
 pub mod TextForms
+pub mod Whole
