@@ -1,5 +1,5 @@
 -- The variables that occur and that no set binds, and the prefix with them in front.
-use Rattle.std.proofs.Common.{◌≡◌, ℕ, zero, suc, ◌+◌, ◌-◌, ◌<◌, ◌≤◌, Bool, true, false, ◌||◌, ◌&&◌, not, List, [], ◌∷◌, ◌++◌, length, map, get_or, refl, sym, ap, subst, ◌∙◌, inl, inr, arith, append_assoc}
+use Rattle.std.proofs.Common.{◌≡◌, ℕ, suc, ◌+◌, ◌<◌, ◌≤◌, Bool, true, false, ◌&&◌, not, List, [], ◌∷◌, ◌++◌, map, get_or, refl, sym, ap, subst, ◌∙◌, inl, inr, arith, append_assoc}
 use Rattle.std.specs.List.{range_with_len, filter}
 use Rattle.std.specs.Prelude.{◌==◌}
 use Rattle.std.proofs.lemmas.Bool.{cases_Bool, or_cases, or_left, or_right, or_from, and_parts, eqb-true, eq-eqb}
@@ -103,5 +103,5 @@ pub next_unbound : (front rest all : List Bound) (b : Bound) (others : List Boun
 next_unbound front rest all b others first is apart =
     let here : AllApart (prefix_variables (front ++ b ∷ rest)) = subst (λ (bs : List Bound). AllApart (prefix_variables bs)) (sym is ∙ ap (λ (bs : List Bound). front ++ bs) first) apart in
     let parts : AllApart ((prefix_variables front ++ b.var.0 ∷ []) ++ prefix_variables rest) =
-        subst (λ (vs : List ℕ). AllApart vs) (map-append (λ (x : Bound). x.var.0) front (b ∷ rest) ∙ sym (append_assoc (prefix_variables front) (b.var.0 ∷ []) (prefix_variables rest))) here in
+    subst (λ (vs : List ℕ). AllApart vs) (map-append (λ (x : Bound). x.var.0) front (b ∷ rest) ∙ sym (append_assoc (prefix_variables front) (b.var.0 ∷ []) (prefix_variables rest))) here in
     (apart_parts (prefix_variables front) b.var.0 (apart_front (prefix_variables front ++ b.var.0 ∷ []) (prefix_variables rest) parts)).1

@@ -3,7 +3,7 @@ use Rattle.std.proofs.Common.{◌≡◌, ℕ, zero, suc, ◌+◌, ◌-◌, ◌�
 use Rattle.std.proofs.lemmas.Bool.{cases_Bool, or_parts, eqb-true}
 use Rattle.std.proofs.lemmas.List.{append-nil, take_rest}
 use Rattle.bddl_model.specs.Bytes.{is_white}
-use Rattle.bddl_model.specs.FormulaWords.{Word, word_on, is_comment, lines_of, onto_first, before, runs_from, line_words, lines_words, words_of, last_line}
+use Rattle.bddl_model.specs.FormulaWords.{Word, word_on, lines_of, onto_first, before, runs_from, lines_words}
 use Rattle.qdimacs_io.specs.Scanning.{line_len, run_len, feeds, shown_words, words_from, IsAtWord}
 
 -- ---- lines

@@ -1,5 +1,5 @@
 -- Whole texts: what is answered at their end, and what the answers say.
-use Rattle.std.proofs.Common.{◌≡◌, ℕ, ◌+◌, ◌<◌, ◌&&◌, not, Bool, false, List, [], ◌∷◌, ◌++◌, map, get_or, Option, None, Some, Result, Ok, Err, refl, sym, ap, ap₂, subst, ◌∙◌, inl, inr, ◌⊎◌, arith}
+use Rattle.std.proofs.Common.{◌≡◌, ℕ, ◌+◌, ◌<◌, ◌&&◌, not, Bool, false, List, [], ◌++◌, map, get_or, Option, None, Some, Result, Ok, Err, refl, sym, ap, ap₂, subst, ◌∙◌, inl, inr, ◌⊎◌, arith}
 use Rattle.std.specs.Prelude.{IfOk, IfErr, zero, suc}
 use Rattle.std.specs.List.{flat_map, filter, range_with_len}
 use Rattle.std.proofs.lemmas.List.{append-nil}
@@ -9,11 +9,11 @@ use Rattle.bddl_model.specs.declared.formula.Quant.TheVariants.{Exists}
 use Rattle.bddl_model.specs.Truth.{Formula}
 use Rattle.bddl_model.specs.Forms.{has_number, prefix_variables, literal_variables, AllFitPrefix}
 use Rattle.bddl_model.specs.FormulaText.{FormulaText}
-use Rattle.bddl_model.specs.FormulaWords.{Word, words_of, last_line}
+use Rattle.bddl_model.specs.FormulaWords.{words_of, last_line}
 use Rattle.bddl_model.specs.Qdimacs.{IsProper, bound_variables, bound_of, set_bounds, free_variables, form_of, Qdimacs}
 use Rattle.bddl_model.specs.FormulaPlaces.{FormulaPlace, nothing, in_clauses, IsProperPlace}
 use Rattle.bddl_model.specs.FormulaFaults.{end_fault, QdimacsFails}
-use Rattle.bddl_model.specs.FormulaReading.{FormulaRead, steps, reading, ended, finished, read_at}
+use Rattle.bddl_model.specs.FormulaReading.{FormulaRead, steps, reading, ended, finished}
 use Rattle.bddl_model.proofs.FormulaReading.{steps_keep, ends_well, reading_is_exact, fault_is_exact}
 use Rattle.bddl_model.proofs.WrittenForms.{bounds_variables}
 use Rattle.qdimacs_io.specs.declared.read.QdimacsRead.{QdimacsRead}

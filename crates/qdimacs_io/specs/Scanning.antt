@@ -1,5 +1,5 @@
 -- What is left of a formula text behind a front of its bytes, and how far lines and words go.
-use Rattle.std.specs.Prelude.{ℕ, suc, ◌≡◌, ◌+◌, ◌≤◌, ◌<◌, ◌==◌, Bool, false, ◌&&◌, if◌then◌else◌, List, [], ◌∷◌, ◌++◌, map, length}
+use Rattle.std.specs.Prelude.{ℕ, suc, ◌≡◌, ◌+◌, ◌≤◌, ◌==◌, Bool, false, ◌&&◌, if◌then◌else◌, List, [], ◌∷◌, ◌++◌, map, length}
 use Rattle.bddl_model.specs.Bytes.{is_white}
 use Rattle.bddl_model.specs.FormulaWords.{Word, word_on, lines_of, runs_from, lines_words, FormulaToken, problem, cnf, quantifier, number, other}
 use Rattle.qdimacs_io.specs.declared.tokens.Token.{Token}

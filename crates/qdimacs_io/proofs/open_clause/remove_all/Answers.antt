@@ -1,4 +1,4 @@
-use Rattle.std.proofs.Common.{arith, ◌≡◌, ◌<◌, ℕ, subst, List, [], true, false, get_or, length}
+use Rattle.std.proofs.Common.{arith, ◌≡◌, ◌<◌, ℕ, subst, List, true, false, get_or, length}
 use Rattle.std.proofs.lemmas.List.{drop_all}
 use Rattle.bddl_model.specs.Forms.{has_number}
 use Rattle.bddl_model.specs.declared.formula.Lit.{Lit}

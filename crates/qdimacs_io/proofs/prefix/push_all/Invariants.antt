@@ -1,5 +1,5 @@
 use Rattle.std.proofs.Common.{◌≡◌, ◌++◌, drop}
-use Rattle.bddl_model.specs.Forms.{greatest_variables, prefix_variables, AllInRange, AllApart}
+use Rattle.bddl_model.specs.Forms.{greatest_variables, prefix_variables, AllInRange}
 use Rattle.qdimacs_io.proofs.prefix.push_all.Given as goal
 
 abbrev pub invariant-loop-bound : goal.invariant-loop-bound

@@ -1,4 +1,3 @@
-use Rattle.std.proofs.Common.{◌++◌}
 use Rattle.qdimacs_io.proofs.FreeVariables.{free_apart}
 use Rattle.qdimacs_io.proofs.prefix.with_free.Goals as goal
 

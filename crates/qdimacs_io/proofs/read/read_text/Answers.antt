@@ -1,4 +1,4 @@
-use Rattle.std.proofs.Common.{◌≡◌, ◌∙◌, sym, ap, Ok}
+use Rattle.std.proofs.Common.{◌∙◌, sym, ap, Ok}
 use Rattle.std.proofs.lemmas.Result.{err_from_is_err_and}
 use Rattle.bddl_model.specs.FormulaReading.{FormulaRead}
 use Rattle.qdimacs_io.proofs.Whole.{word_fails, end_fails, whole_fits, whole_read}

@@ -1,4 +1,4 @@
-use Rattle.std.proofs.Common.{rules, arith, ◌≡◌, ◌≤◌, ◌+◌, ◌∙◌}
+use Rattle.std.proofs.Common.{arith, ◌∙◌}
 use Rattle.bddl_model.specs.FormulaWords.{Word, word_on}
 use Rattle.qdimacs_io.specs.Scanning.{token_view}
 use Rattle.qdimacs_io.proofs.Following.{states_kept, found_step}

@@ -1,5 +1,4 @@
-use Rattle.std.proofs.Common.{rules, arith, sym, ◌∙◌, ◌≡◌, ◌<◌, ◌≤◌, ◌+◌, ◌*◌, ◌-◌, length, true, get_or}
-use Rattle.bddl_model.specs.Bytes.{is_digit}
+use Rattle.std.proofs.Common.{arith, sym, length, get_or}
 use Rattle.qdimacs_io.proofs.Numbers.{value_small, digit_small}
 use Rattle.qdimacs_io.proofs.tokens.digits_value.Goals as goal
 

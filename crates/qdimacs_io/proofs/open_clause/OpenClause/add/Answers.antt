@@ -1,4 +1,4 @@
-use Rattle.std.proofs.Common.{◌≡◌, ◌+◌, ◌*◌, ◌<◌, ◌∙◌, ◌||◌, sym, ap, subst}
+use Rattle.std.proofs.Common.{◌+◌, ◌*◌, ◌<◌, ◌∙◌, ◌||◌, sym, ap, subst}
 use Rattle.bddl_model.specs.Truth.{negation}
 use Rattle.qdimacs_io.specs.States.{OpenLiterals, with_literal}
 use Rattle.qdimacs_io.proofs.Tables.{is_marked, one_more, doubled_seen, added_seen}

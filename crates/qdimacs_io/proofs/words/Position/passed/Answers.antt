@@ -1,5 +1,5 @@
-use Rattle.std.proofs.Common.{◌≤◌, ◌+◌, length, refl, arith}
-use Rattle.qdimacs_io.proofs.Scans.{behind_feed, behind_return, behind_blank, blank_feeds, comment_gone}
+use Rattle.std.proofs.Common.{refl, arith}
+use Rattle.qdimacs_io.proofs.Scans.{comment_gone}
 use Rattle.qdimacs_io.proofs.words.Position.passed.Goals as goal
 
 pub returns-then-self-clause-gap : goal.returns-then-self-clause-gap

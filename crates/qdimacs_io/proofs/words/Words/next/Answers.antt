@@ -1,4 +1,4 @@
-use Rattle.std.proofs.Common.{◌≡◌, ◌+◌, ◌<◌, sym, ap, ◌∙◌, arith}
+use Rattle.std.proofs.Common.{◌+◌, ap, ◌∙◌, arith}
 use Rattle.qdimacs_io.specs.Scanning.{Remaining}
 use Rattle.qdimacs_io.proofs.Scans.{word_found, feeds_behind, shorter_behind}
 use Rattle.qdimacs_io.proofs.words.Words.next.Goals as goal

@@ -1,4 +1,4 @@
-use Rattle.std.proofs.Common.{arith, ◌+◌}
+use Rattle.std.proofs.Common.{arith}
 use Rattle.qdimacs_io.proofs.Scans.{lines_are_feeds}
 use Rattle.qdimacs_io.proofs.words.Words.of.Goals as goal
 
