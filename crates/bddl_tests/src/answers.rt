@@ -1,4 +1,5 @@
 // Requests over files in memory, and their answers.
+use crate::reading_back::assert_reads_back;
 use bddl_model::NoMemory;
 use bddl_requests::run;
 use io_edge::{MemoryShelf, MemorySink, SteadySink};
@@ -52,7 +53,7 @@ pub fn answer_of(
     })
 }
 
-/// The text that a game is compiled to.
+/// The text that a game is compiled to, which reads back.
 pub fn text_of(
     rt: &impl Abort,
     alloc: Global,
@@ -63,6 +64,7 @@ pub fn text_of(
     let Answer { status, out, note } = answer_of(alloc, &[b"compile", b"d", b"p"], &mut shelf)?;
     assert!(rt; note.is_empty(), "{domain} {problem}");
     assert_eq!(rt; status, 0, "{domain} {problem}");
+    assert_reads_back(rt, alloc, &out)?;
     Ok(out)
 }
 

@@ -22,6 +22,8 @@ mod games;
 #[cfg(test)]
 mod positions;
 #[cfg(test)]
+mod reading_back;
+#[cfg(test)]
 mod requests;
 #[cfg(test)]
 mod start_positions;

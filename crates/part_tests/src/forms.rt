@@ -2,7 +2,7 @@
 use bddl_model::{Lit, NoMemory, Quant, Var};
 use io_edge::SteadySink;
 use qbf_form::{Form, Prefix};
-use qdimacs_io::write_qdimacs;
+use qdimacs_io::{read_qdimacs, write_qdimacs};
 use std::alloc::Global;
 use std::process::Abort;
 
@@ -89,9 +89,36 @@ pub fn form_of(
     Ok(form)
 }
 
-/// The form has this text.
-pub fn assert_text(rt: &impl Abort, alloc: Global, form: &Form, text: &[u8]) {
+fn assert_written(rt: &impl Abort, alloc: Global, form: &Form, text: &[u8]) {
     let mut sink = SteadySink::new(alloc);
     assert_eq!(rt; write_qdimacs(form, &mut sink), Ok(()));
     assert_eq!(rt; sink.bytes(), text);
+}
+
+/// A text is read as a form of this text, with these numbers in its problem line.
+pub fn assert_read(
+    rt: &impl Abort,
+    alloc: Global,
+    read: &[u8],
+    numbers: (u32, u64),
+    written: &[u8],
+) {
+    assert!(rt; read.len() <= 67_108_864);
+    match read_qdimacs(alloc, read) {
+        Ok(read) => {
+            assert_eq!(rt; (read.variables, read.clauses), numbers);
+            assert_written(rt, alloc, &read.form, written);
+        }
+        Err(fault) => panic!(rt; "{fault:?}"),
+    }
+}
+
+/// The form has this text, and is read from it.
+pub fn assert_text(rt: &impl Abort, alloc: Global, form: &Form, text: &[u8]) {
+    assert_written(rt, alloc, form, text);
+    let mut greatest = 0;
+    for bound in form.prefix().as_slice() {
+        greatest = bound.var.0.max(greatest);
+    }
+    assert_read(rt, alloc, text, (greatest, form.clauses()), text);
 }

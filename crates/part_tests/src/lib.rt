@@ -14,6 +14,8 @@ mod compiled;
 #[cfg(test)]
 mod forms;
 #[cfg(test)]
+mod formula_texts;
+#[cfg(test)]
 mod gates;
 #[cfg(test)]
 mod layouts;

@@ -172,7 +172,7 @@ impl<'a> Words<'a> {
         })
     }
 
-    /// The number of the line on which the words still to come begin.
+    /// The number of the line up to which words were taken; behind the last one, of the text's last line.
     pub fn line(&self) -> u32
         ensures { result ≡ self.now.line }
     {
