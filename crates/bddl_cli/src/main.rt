@@ -3,6 +3,7 @@
 
 use bddl_requests::run;
 use io_edge::{FileShelf, StreamSink};
+use qbf_search::{Decider, PlainDecider};
 use std::io::ErrorKind;
 use std::process::ExitCode;
 use std::{env, io};
@@ -23,8 +24,20 @@ fn main(rt: HostRuntime) -> ExitCode {
         // Some word is no text, and so there is no such request.
         Err(_) => Vec::new(rt.alloc()),
     };
+    let Ok(plain) = Box::new(rt.alloc(), PlainDecider::new()) else {
+        return ExitCode::from(5);
+    };
+    let mut decider: Box<dyn Decider> = plain;
     let mut shelf = FileShelf::over(&rt);
     let mut out = StreamSink::over(rt.stdout());
     let mut note = StreamSink::over(rt.stderr());
-    ExitCode::from(run(rt.alloc(), &words, &mut shelf, &mut out, &mut note))
+    let status = run(
+        rt.alloc(),
+        &words,
+        &mut shelf,
+        &mut out,
+        &mut note,
+        &mut decider,
+    );
+    ExitCode::from(status)
 }

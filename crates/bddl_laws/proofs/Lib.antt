@@ -34,6 +34,8 @@ pub mod GateValues
 pub mod Tails
 pub mod CircuitTails
 pub mod SharedGates
+pub mod FollowingClauses
+pub mod FollowingValues
 pub mod GreatestSizes
 pub mod GreatestInputs
 mod WorkedTails

@@ -24,7 +24,7 @@ use Rattle.bddl_model.proofs.CircuitForms.{var_apart}
 -- ---- the literals of short clauses
 
 -- literals are equal where the test says so
-literal_is : (l m : Lit) → same_literal l m ≡ true → l ≡ m
+pub literal_is : (l m : Lit) → same_literal l m ≡ true → l ≡ m
 literal_is l m h =
     let parts = and_parts (l.var.0 == m.var.0) (beq l.negated m.negated) h in
     ap₂ (λ v n. record { var = record { 0 = v }; negated = n }) (eqb-true l.var.0 m.var.0 parts.0) ((booleans_Decides l.negated m.negated).0 parts.1)
@@ -39,10 +39,10 @@ negation_is l m e = ap₂ (λ v n. record { var = record { 0 = v }; negated = n 
     sign false true q = absurd (false≢true (sym q))
     sign false false q = refl
 
-one_literal : (l x : Lit) → has_literal (x ∷ []) l ≡ true → l ≡ x
+pub one_literal : (l x : Lit) → has_literal (x ∷ []) l ≡ true → l ≡ x
 one_literal l x h = literal_is l x (sym (or-false (same_literal l x)) ∙ h)
 
-two_literals : (l x y : Lit) → has_literal (x ∷ y ∷ []) l ≡ true → (l ≡ x) ⊎ (l ≡ y)
+pub two_literals : (l x y : Lit) → has_literal (x ∷ y ∷ []) l ≡ true → (l ≡ x) ⊎ (l ≡ y)
 two_literals l x y h = ⊎_elim (λ here. inl (literal_is l x here)) (λ later. inr (one_literal l y later)) (or_cases (same_literal l x) (has_literal (y ∷ []) l) h)
 
 three_literals : (l x y z : Lit) → has_literal (x ∷ y ∷ z ∷ []) l ≡ true → (l ≡ x) ⊎ ((l ≡ y) ⊎ (l ≡ z))

@@ -1,1 +1,2 @@
 pub mod WorkedGames
+pub mod FollowingValues

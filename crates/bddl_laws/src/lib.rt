@@ -5,14 +5,16 @@
 //! reduction keep them, and what a form's value is where one has no literal left. Begin with
 //! `bddl_model/specs/Fine.antt`. `exactness` says why the encoding says of every position what can be
 //! forced from there; begin with `bddl_model/specs/Conditions.antt`. `circuits` says what the clauses of
-//! a circuit mean, `texts` that a form is read from its text and that each text has one reading, and
-//! `bounds` how large a form gets and how many steps a search over it takes.
+//! a circuit mean, `following` which values a tail's variables have, `texts` that a form is read from its
+//! text and that each text has one reading, and `bounds` how large a form gets and how many steps a search
+//! over it takes.
 #![tactic(auto)]
 
 mod bounds;
 mod circuits;
 mod constraints;
 mod exactness;
+mod following;
 mod texts;
 
 pub use bounds::{
@@ -27,4 +29,5 @@ pub use constraints::{
     resolved_cube_is_fine, resolvent_fits,
 };
 pub use exactness::{lines_of_play_are_played, served_claims_are_exact};
+pub use following::tail_values_follow;
 pub use texts::{one_reading, text_is_read};

@@ -5,6 +5,8 @@ use Rattle.bddl_model.specs.declared.formula.Quant.{Quant}
 use Rattle.bddl_model.specs.declared.formula.Quant.TheVariants.{Exists, All}
 use Rattle.bddl_model.specs.declared.formula.Bound.{Bound}
 use Rattle.bddl_model.specs.declared.formula.Lit.{Lit}
+use Rattle.bddl_model.specs.declared.formula.Kind.{Kind}
+use Rattle.bddl_model.specs.declared.formula.Kind.TheVariants.{Clause, Cube}
 use Rattle.bddl_model.specs.Truth.{Assignment, Formula, assign, value, literal_true, clause_true, clauses_true}
 use Rattle.bddl_model.specs.Forms.{has_number, prefix_variables, literal_variables, FitsPrefix}
 use Rattle.bddl_model.specs.FormulaText.{same_quant}
@@ -79,3 +81,10 @@ FineClauseOf kept f c = IsFineClause kept f.prefix (clauses_true f.clauses) c
 
 abbrev pub FineCubeOf : ℕ → Formula → List Lit → Type 0
 FineCubeOf kept f k = IsFineCube kept f.prefix (clauses_true f.clauses) k
+
+-- ---- of either kind
+
+-- a constraint that a solver may keep: reduction drops no literal of a first block that isn't the constraint's own
+abbrev pub IsFine : Kind → Formula → List Lit → Type 0
+IsFine Clause f c = FineClauseOf (first_block All f.prefix) f c
+IsFine Cube f k = FineCubeOf (first_block Exists f.prefix) f k

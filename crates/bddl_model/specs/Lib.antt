@@ -47,5 +47,6 @@ pub mod Canonical
 pub mod Encodes
 pub mod Notes
 pub mod Request
+pub mod Verdicts
 pub mod About
 pub mod Outcome

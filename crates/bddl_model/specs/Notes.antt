@@ -1,11 +1,13 @@
 -- The lines that tell why a request was not carried out.
 use Rattle.std.specs.Prelude.{ℕ, List, [], ◌++◌, codes}
-use Rattle.std.specs.Fmt.{decimal}
+use Rattle.std.specs.Fmt.{decimal, signed_decimal}
 use Rattle.bddl_model.specs.declared.texts.Place.{Place}
 use Rattle.bddl_model.specs.declared.tokens.LexFault.{LexFault}
 use Rattle.bddl_model.specs.declared.tokens.LexFault.TheVariants as lex
 use Rattle.bddl_model.specs.declared.fault.ReadFault.{ReadFault}
 use Rattle.bddl_model.specs.declared.fault.ReadFault.TheVariants as fault
+use Rattle.bddl_model.specs.declared.fault.QFault.{QFault}
+use Rattle.bddl_model.specs.declared.fault.QFault.TheVariants as formula
 use Rattle.bddl_model.specs.declared.game.Side.{Side}
 use Rattle.bddl_model.specs.declared.game.Side.TheVariants.{Black, White}
 use Rattle.bddl_model.specs.declared.check.Item.{Item}
@@ -64,6 +66,23 @@ domain_fault bytes f = place_note (codes "domain") (fault_place bytes f) (fault_
 
 abbrev pub problem_fault : List ℕ → ReadFault → List ℕ
 problem_fault bytes f = place_note (codes "problem") (fault_place bytes f) (fault_words f)
+
+-- ---- texts that are no formula
+
+abbrev pub line_note : ℕ → List ℕ → List ℕ
+line_note line words = codes "qdimacs:" ++ (decimal line ++ (codes ": " ++ (words ++ codes "\n")))
+
+-- the line, and what is wrong there; want of memory is no fault of a text
+abbrev pub formula_note : QFault → List ℕ
+formula_note (formula.NoProblemLine line) = line_note line (codes "no problem line")
+formula_note (formula.BadWord line) = line_note line (codes "bad word")
+formula_note (formula.OutOfRange line literal) = line_note line (codes "literal " ++ (signed_decimal literal ++ codes " is out of range"))
+formula_note (formula.BoundTwice line var) = line_note line (codes "variable " ++ (decimal var ++ codes " is bound twice"))
+formula_note (formula.AfterMatrix line) = line_note line (codes "quantifier after a clause")
+formula_note (formula.EndsEarly line) = line_note line (codes "text ends early")
+formula_note (formula.TooManyVariables line said) = line_note line (decimal said ++ codes " variables are over 16777215")
+formula_note (formula.CountDiffers said found) = codes "qdimacs: count differs: said " ++ (decimal said ++ (codes ", found " ++ (decimal found ++ codes "\n")))
+formula_note formula.NoMemory = []
 
 -- ---- games that have a fault
 

@@ -1,12 +1,15 @@
 -- What a command line comes to, by the files that are held. Each step goes on with what it found, or tells why it can't.
-use Rattle.std.specs.Prelude.{ℕ, ◌≡◌, ◌+◌, ◌<◌, ◌≤◌, ◌⊎◌, List, [], ◌∷◌, length, map, Bool, IsTrue, Option, None, Some, Result, Ok, Err}
+use Rattle.std.specs.Prelude.{ℕ, ◌≡◌, ◌+◌, ◌<◌, ◌≤◌, ◌⊎◌, List, [], ◌∷◌, length, map, Bool, true, false, ◌||◌, ◌==◌, IsTrue, Option, None, Some, Result, Ok, Err}
 use Rattle.std.specs.FinMap.{get}
 use Rattle.bddl_model.specs.declared.texts.DomainText.{DomainText}
 use Rattle.bddl_model.specs.declared.texts.ProblemText.{ProblemText}
 use Rattle.bddl_model.specs.declared.fault.ReadFault.{ReadFault}
 use Rattle.bddl_model.specs.declared.check.CheckFault.{CheckFault}
+use Rattle.bddl_model.specs.declared.fault.QFault.{QFault}
+use Rattle.bddl_model.specs.declared.formula.Quant.TheVariants as quant
+use Rattle.bddl_model.specs.declared.formula.Verdict.TheVariants as verdict
 use Rattle.bddl_model.specs.declared.command.Command.{Command}
-use Rattle.bddl_model.specs.declared.command.Command.TheVariants.{Compile, FormatDomain, FormatProblem, Help, Version}
+use Rattle.bddl_model.specs.declared.command.Command.TheVariants.{Compile, Solve, SolveFormula, FormatDomain, FormatProblem, Help, Version}
 use Rattle.bddl_model.specs.Files.{Files}
 use Rattle.bddl_model.specs.About.{help_text, version_text}
 use Rattle.bddl_model.specs.Notes as notes
@@ -16,10 +19,14 @@ use Rattle.bddl_model.specs.Canonical.{domain_text, problem_text}
 use Rattle.bddl_model.specs.Reading.{Reads, ReadFails}
 use Rattle.bddl_model.specs.Truth.{Formula}
 use Rattle.bddl_model.specs.FormulaText.{qtext}
-use Rattle.bddl_model.specs.Qdimacs.{HasOneForm}
+use Rattle.bddl_model.specs.Qdimacs.{Qdimacs, HasOneForm}
+use Rattle.bddl_model.specs.FormulaFaults.{QdimacsFails}
 use Rattle.bddl_model.specs.Setup.{Setup}
 use Rattle.bddl_model.specs.Check.{checked_setup}
+use Rattle.bddl_model.specs.Win.{win}
 use Rattle.bddl_model.specs.Encodes.{Encodes}
+use Rattle.bddl_model.specs.Bounds.{bound, game_bound}
+use Rattle.bddl_model.specs.Verdicts.{IsValue, win_text, no_win_text, spent_text, answer_text}
 use Rattle.bddl_model.specs.Request.{Request, limits_of, files_of}
 
 -- how a call ends that is not cut short: its status, and what it wrote
@@ -32,10 +39,13 @@ pub record End : Type 0 where
 abbrev pub refused : ℕ → List ℕ → End
 refused status note = record { status = status; out = []; note = note }
 
-abbrev pub done : List ℕ → End
-done text = record { status = 0; out = text; note = [] }
-
 -- the text is written, and there is nothing to note
+abbrev pub told : ℕ → List ℕ → End
+told status text = record { status = status; out = text; note = [] }
+
+abbrev pub done : List ℕ → End
+done text = told 0 text
+
 abbrev pub Says : List ℕ → End → Type 0
 Says text end = end ≡ done text
 
@@ -83,25 +93,55 @@ pub record Compiles (d p : List ℕ) (s : Setup) (text : List ℕ) : Type 0 wher
 abbrev pub CompileEnds : List ℕ → List ℕ → Setup → End → Type 0
 CompileEnds d p s end = (text : List ℕ) × Compiles d p s text × Says text end
 
+-- ---- deciding
+
+-- what deciding a setup in so many steps may end as
+abbrev pub SolveEnds : ℕ → Setup → End → Type 0
+SolveEnds budget s end =
+    ((win s.game s.first s.board s.depth ≡ true) × (end ≡ told 10 win_text))
+    ⊎ (((win s.game s.first s.board s.depth ≡ false) × (end ≡ told 20 no_win_text))
+    ⊎ ((budget < game_bound s) × (end ≡ told 30 spent_text)))
+
+-- goes on with the two numbers and the form of a formula's text
+abbrev pub FormulaThen : List ℕ → (ℕ → ℕ → Formula → End → Type 0) → End → Type 0
+FormulaThen bytes next end =
+    ((f : QFault) × QdimacsFails bytes f × (end ≡ refused 2 (notes.formula_note f)))
+    ⊎ ((variables clauses : ℕ) × (form : Formula) × Qdimacs bytes variables clauses form × next variables clauses form end)
+
+-- what deciding a form in so many steps may end as
+abbrev pub FormulaSolveEnds : ℕ → ℕ → ℕ → Formula → End → Type 0
+FormulaSolveEnds budget variables clauses form end =
+    ((first : List Bool) × IsValue form quant.Exists true first × (end ≡ told 10 (answer_text verdict.True variables clauses form.prefix first)))
+    ⊎ (((first : List Bool) × IsValue form quant.All false first × (end ≡ told 20 (answer_text verdict.False variables clauses form.prefix first)))
+    ⊎ ((budget < bound form) × (end ≡ told 30 (answer_text verdict.Spent variables clauses form.prefix []))))
+
 -- ---- the table of ends
 
 -- what a command may end as, by the contents of its files and by its numbers
 abbrev pub ContentEnds : Command → List (List ℕ) → List ℕ → End → Type 0
 ContentEnds Compile (d ∷ p ∷ []) [] end = GameThen d p (CompileEnds d p) end
+ContentEnds Solve (d ∷ p ∷ []) (n ∷ []) end = GameThen d p (SolveEnds n) end
+ContentEnds SolveFormula (f ∷ []) (n ∷ []) end = FormulaThen f (FormulaSolveEnds n) end
 ContentEnds FormatDomain (d ∷ []) [] end = DomainThen d (λ tree. Says (domain_text tree)) end
 ContentEnds FormatProblem (p ∷ []) [] end = ProblemThen p (λ tree. Says (problem_text tree)) end
 ContentEnds Help [] [] end = Says help_text end
 ContentEnds Version [] [] end = Says version_text end
 ContentEnds _ _ _ end = ⊥
 
--- what a command that ends with status 0 writes
-abbrev pub Results : Command → List (List ℕ) → List ℕ → Type 0
-Results Compile (d ∷ p ∷ []) text = (s : Setup) × Compiles d p s text
-Results FormatDomain (d ∷ []) text = (tree : DomainText) × Reads domain d tree × (text ≡ domain_text tree)
-Results FormatProblem (p ∷ []) text = (tree : ProblemText) × Reads problem p tree × (text ≡ problem_text tree)
-Results Help [] text = text ≡ help_text
-Results Version [] text = text ≡ version_text
-Results _ _ text = ⊥
+-- the status is one that tells that the request was carried out
+abbrev pub is_carried_out : ℕ → Bool
+is_carried_out status = status == 0 || (status == 10 || (status == 20 || status == 30))
+
+-- what a command that is carried out ends as
+abbrev pub Results : Command → List (List ℕ) → List ℕ → End → Type 0
+Results Compile (d ∷ p ∷ []) [] end = (s : Setup) × CompileEnds d p s end
+Results Solve (d ∷ p ∷ []) (n ∷ []) end = (dom : DomainText) × (prob : ProblemText) × (s : Setup) × States d p dom prob (Ok s) × SolveEnds n s end
+Results SolveFormula (f ∷ []) (n ∷ []) end = (variables clauses : ℕ) × (form : Formula) × Qdimacs f variables clauses form × FormulaSolveEnds n variables clauses form end
+Results FormatDomain (d ∷ []) [] end = (tree : DomainText) × Reads domain d tree × Says (domain_text tree) end
+Results FormatProblem (p ∷ []) [] end = (tree : ProblemText) × Reads problem p tree × Says (problem_text tree) end
+Results Help [] [] end = Says help_text end
+Results Version [] [] end = Says version_text end
+Results _ _ _ end = ⊥
 
 -- ---- files
 
@@ -144,7 +184,7 @@ RequestEnds faulty (Some r) found end = FilesThen faulty 2 (limits_of r.command)
 abbrev pub MayEnd : Bool → Option Files → Option Request → End → Type 0
 MayEnd faulty held request end = (found : List (Option (List ℕ))) × Finds held (files_of request) found × RequestEnds faulty request found end
 
--- a request that ends with status 0 writes this: the result of the contents of its files
-abbrev pub IsResult : Option Files → Option Request → List ℕ → Type 0
-IsResult held None text = ⊥
-IsResult held (Some r) text = (contents : List (List ℕ)) × Finds held r.files (map Some contents) × Results r.command contents text
+-- a request that is carried out ends as this: the result of the contents of its files
+abbrev pub IsResult : Option Files → Option Request → End → Type 0
+IsResult held None end = ⊥
+IsResult held (Some r) end = (contents : List (List ℕ)) × Finds held r.files (map Some contents) × Results r.command contents r.numbers end

@@ -2,6 +2,8 @@
 #[derive(Clone, Copy, Debug, PartialEq, Eq)]
 pub enum Command {
     Compile,
+    Solve,
+    SolveFormula,
     FormatDomain,
     FormatProblem,
     Help,

@@ -5,11 +5,11 @@ ghost use Rattle.bddl_model.specs.Truth as truth;
 use crate::Items;
 
 /// A variable of a formula, from 1 on.
-#[derive(Clone, Copy, Debug, PartialEq, Eq, PartialOrd, Ord, Hash)]
+#[derive(Clone, Copy, Debug, Default, PartialEq, Eq, PartialOrd, Ord, Hash)]
 pub struct Var(pub u32);
 
 /// A variable, or its negation.
-#[derive(Clone, Copy, Debug, PartialEq, Eq, Hash)]
+#[derive(Clone, Copy, Debug, Default, PartialEq, Eq, Hash)]
 pub struct Lit {
     pub var: Var,
     pub negated: bool,
@@ -72,4 +72,12 @@ pub struct Span {
 pub struct Block {
     pub quant: Quant,
     pub span: Span,
+}
+
+/// What is found of a formula in so many steps: its value, or that they are spent.
+#[derive(Clone, Copy, Debug, PartialEq, Eq)]
+pub enum Verdict {
+    True,
+    False,
+    Spent,
 }

@@ -20,7 +20,7 @@ pub use check::{Axis, CheckFault, Item, Part};
 pub use circuit::{Gate, NodeId, Wire};
 pub use command::Command;
 pub use fault::{QFault, ReadFault};
-pub use formula::{Block, Bound, Kind, Lit, LitList, Quant, Span, Var};
+pub use formula::{Block, Bound, Kind, Lit, LitList, Quant, Span, Var, Verdict};
 pub use game::{Atom, GREATEST_SIDE, Mark, Move, PlyBits, Rect, Side, Term, Test};
 pub use list::Items;
 pub use memory::NoMemory;

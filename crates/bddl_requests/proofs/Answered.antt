@@ -1,13 +1,13 @@
 -- From what a request wrote to what the whole call answers.
-use Rattle.std.proofs.Common.{ℕ, ◌≡◌, ◌≢◌, ◌<◌, ◌≤◌, Bool, true, List, [], ◌∷◌, get_or, length, map, Option, None, Some, Result, Ok, Err, ◌⊎◌, inl, inr, refl, sym, ap, ap₂, subst, ◌∙◌, arith}
+use Rattle.std.proofs.Common.{ℕ, ◌≡◌, ◌<◌, Bool, true, false, List, [], ◌∷◌, get_or, length, map, Option, None, Some, Result, Ok, Err, ◌⊎◌, inl, inr, refl, sym, ap, ap₂, subst, ◌∙◌, arith}
 use Rattle.std.proofs.lemmas.List.{append-nil}
 use Rattle.bddl_model.specs.Files.{Files}
 use Rattle.bddl_model.specs.Request.{Request, limits_of}
 use Rattle.bddl_model.specs.declared.command.Command.{Command}
-use Rattle.bddl_model.specs.Outcome.{End, done, ContentEnds, FilesThen, Finds, IsResult, MayEnd}
+use Rattle.bddl_model.specs.Outcome.{End, ContentEnds, FilesThen, Finds, IsResult, MayEnd, is_carried_out}
 use Rattle.io_edge.specs.Outside.{Counts, Rose, with_bytes, WithFront}
 use Rattle.io_edge.proofs.Fronts.{with_bytes_none}
-use Rattle.request_parts.specs.Ends.{Answers, AreWithin, CutShort, IsFileStop, Nothing, StopsAt, Tells, Writes, closed, content_told, is_read_fault, is_write_fault, refusal_told}
+use Rattle.request_parts.specs.Ends.{Answers, AreWithin, CutShort, IsFileStop, NotCut, Nothing, StopsAt, Tells, Writes, close_status, closed, content_told, is_read_fault, is_write_fault, refusal_told}
 use Rattle.request_parts.specs.Stops.{stop_of_content}
 use Rattle.request_parts.specs.declared.refusal.Close.{Close}
 use Rattle.request_parts.specs.declared.refusal.Close.TheVariants as close
@@ -41,13 +41,25 @@ nothing_left : (ns : List ℕ) → length ns ≡ 0 → ns ≡ []
 nothing_left [] e = refl
 nothing_left (n ∷ ns) e = absurd (omega arith)
 
--- a command without numbers
-pub written_by : (known asked : Command) (contents cs : List (List ℕ)) (numbers : List ℕ) (old new : Option (List ℕ)) (r : Result Close (Stop Content)) → asked ≡ known → contents ≡ cs → length numbers ≡ 0
-    → Writes content_told (ContentEnds known cs []) old new r → Writes content_told (ContentEnds asked contents numbers) old new r
-written_by known asked contents cs numbers old new r e f g h =
-    subst (λ k. Writes content_told (ContentEnds k contents numbers) old new r) (sym e)
-    (subst (λ cs. Writes content_told (ContentEnds known cs numbers) old new r) (sym f)
-    (subst (λ ns. Writes content_told (ContentEnds known cs ns) old new r) (sym (nothing_left numbers g)) h))
+one_left : (ns : List ℕ) (n : ℕ) → length ns ≡ 1 → n ≡ get_or ns 0 n → ns ≡ n ∷ []
+one_left [] n e h = absurd (omega arith)
+one_left (m ∷ []) n e h = ap (λ k. k ∷ []) (sym h)
+one_left (m ∷ k ∷ ns) n e h = absurd (omega arith)
+
+module _ (known asked : Command) (contents cs : List (List ℕ)) (numbers : List ℕ) (old new : Option (List ℕ)) (r : Result Close (Stop Content)) (e : asked ≡ known) (f : contents ≡ cs) where
+  written_with : (ns : List ℕ) → numbers ≡ ns → Writes content_told (ContentEnds known cs ns) old new r → Writes content_told (ContentEnds asked contents numbers) old new r
+  written_with ns g h =
+      subst (λ k. Writes content_told (ContentEnds k contents numbers) old new r) (sym e)
+      (subst (λ cs. Writes content_told (ContentEnds known cs numbers) old new r) (sym f)
+      (subst (λ ns. Writes content_told (ContentEnds known cs ns) old new r) (sym g) h))
+
+  -- a command without numbers
+  pub written_by : length numbers ≡ 0 → Writes content_told (ContentEnds known cs []) old new r → Writes content_told (ContentEnds asked contents numbers) old new r
+  written_by g = written_with [] (nothing_left numbers g)
+
+  -- a command with one
+  pub written_by_number : (n : ℕ) → length numbers ≡ 1 → n ≡ get_or numbers 0 n → Writes content_told (ContentEnds known cs (n ∷ [])) old new r → Writes content_told (ContentEnds asked contents numbers) old new r
+  written_by_number n g h = written_with (n ∷ []) (one_left numbers n g h)
 
 -- ---- from there to the request
 
@@ -103,13 +115,13 @@ whole_front : (old new : Option (List ℕ)) (text : List ℕ) → new ≡ with_b
 whole_front old new text e = (text, [], append-nil text, e)
 
 -- an end whose text was written and whose note was told, whole or in part
-pub told_answers : (ends : End → Type 0) (end : End) (out_old out_new note_old note_new : Option (List ℕ)) (status : ℕ) → ends end → out_new ≡ with_bytes out_old end.out → end.status < 4 → Tells end note_old note_new status
+pub told_answers : (ends : End → Type 0) (end : End) (out_old out_new note_old note_new : Option (List ℕ)) (status : ℕ) → ends end → out_new ≡ with_bytes out_old end.out → NotCut end.status → Tells end note_old note_new status
     → Answers ends out_old out_new note_old note_new status
-told_answers ends end out_old out_new note_old note_new status e written few (inl (is, told)) = record {
+told_answers ends end out_old out_new note_old note_new status e written whole (inl (is, told)) = record {
   whole = λ four five. (end, e, (is, written, told));
-  cut = λ short. absurd (elim short [ inl four ↦ omega arith | inr five ↦ omega arith ]);
+  cut = λ short. absurd (elim short [ inl four ↦ whole.0 (sym is ∙ four) | inr five ↦ whole.1 (sym is ∙ five) ]);
 }
-told_answers ends end out_old out_new note_old note_new status e written few (inr (short, front)) = record {
+told_answers ends end out_old out_new note_old note_new status e written whole (inr (short, front)) = record {
   whole = λ four five. absurd (elim short [ inl h ↦ four h | inr h ↦ five h ]);
   cut = λ h. inr (end, e, whole_front out_old out_new end.out written, front);
 }
@@ -127,12 +139,13 @@ cut_answers ends out_old out_new noted status short (inr (end, e, f)) = record {
 -- ---- refusals
 
 -- a refusal writes nothing, and its status tells what it is
-refusal_writes_nothing : (r : Refusal) → ((refusal_told r).out ≡ []) × ((refusal_told r).status ≢ 0)
-refusal_writes_nothing refusal.NoRequest = (refl, λ e. absurd (omega arith))
-refusal_writes_nothing (refusal.File word file_end.ReadFault) = (refl, λ e. absurd (omega arith))
-refusal_writes_nothing (refusal.File word (file_end.TooLong most)) = (refl, λ e. absurd (omega arith))
-refusal_writes_nothing (refusal.Content (content.Text text place f)) = (refl, λ e. absurd (omega arith))
-refusal_writes_nothing (refusal.Content (content.Check f)) = (refl, λ e. absurd (omega arith))
+refusal_writes_nothing : (r : Refusal) → ((refusal_told r).out ≡ []) × (is_carried_out (refusal_told r).status ≡ false)
+refusal_writes_nothing refusal.NoRequest = (refl, refl)
+refusal_writes_nothing (refusal.File word file_end.ReadFault) = (refl, refl)
+refusal_writes_nothing (refusal.File word (file_end.TooLong most)) = (refl, refl)
+refusal_writes_nothing (refusal.Content (content.Text text place f)) = (refl, refl)
+refusal_writes_nothing (refusal.Content (content.Check f)) = (refl, refl)
+refusal_writes_nothing (refusal.Content (content.Formula f)) = (refl, refl)
 
 pub nothing_is_written : (r : Refusal) (old new : Option (List ℕ)) → new ≡ old → new ≡ with_bytes old (refusal_told r).out
 nothing_is_written r old new same = same ∙ sym (with_bytes_none old) ∙ ap (with_bytes old) (sym (refusal_writes_nothing r).0)
@@ -143,6 +156,7 @@ status_of_words (refusal.File word file_end.ReadFault) e = absurd (omega arith)
 status_of_words (refusal.File word (file_end.TooLong most)) e = absurd (omega arith)
 status_of_words (refusal.Content (content.Text text place f)) e = absurd (omega arith)
 status_of_words (refusal.Content (content.Check f)) e = absurd (omega arith)
+status_of_words (refusal.Content (content.Formula f)) e = absurd (omega arith)
 
 pub status_of_read : (T : Type 0) (r : Refusal) (before after : ℕ) → Counts before after (is_read_fault {T = T} (Err (stop.Refused r))) → ((refusal_told r).status ≡ 3 → Rose before after) × (before < after → (refusal_told r).status ≡ 3)
 status_of_read T refusal.NoRequest before after h = ((λ e. absurd (omega arith)), λ lt. absurd (omega arith))
@@ -150,6 +164,7 @@ status_of_read T (refusal.File word file_end.ReadFault) before after h = ((λ e.
 status_of_read T (refusal.File word (file_end.TooLong most)) before after h = ((λ e. absurd (omega arith)), λ lt. absurd (omega arith))
 status_of_read T (refusal.Content (content.Text text place f)) before after h = ((λ e. absurd (omega arith)), λ lt. absurd (omega arith))
 status_of_read T (refusal.Content (content.Check f)) before after h = ((λ e. absurd (omega arith)), λ lt. absurd (omega arith))
+status_of_read T (refusal.Content (content.Formula f)) before after h = ((λ e. absurd (omega arith)), λ lt. absurd (omega arith))
 
 -- the refusal of words that are no request
 pub words_refused : (result : Result Close (Stop Refusal)) (s : Stop Refusal) (r : Refusal) → result ≡ Err s → s ≡ stop.Refused r → (result ≡ Err (stop.Refused refusal.NoRequest)) ⊎ (result ≡ Err stop.NoMemory) → (refusal_told r).status ≡ 1
@@ -164,8 +179,15 @@ told_status end old new status n few (inl (is, told)) e = (sym is ∙ e, told)
 told_status end old new status n few (inr (inl four, front)) e = absurd (omega arith)
 told_status end old new status n few (inr (inr five, front)) e = absurd (omega arith)
 
-pub refusal_is_no_result : {X : Type 0} (r : Refusal) (old new : Option (List ℕ)) (status : ℕ) → Tells (refusal_told r) old new status → status ≡ 0 → X
-refusal_is_no_result r old new status h e = absurd ((refusal_writes_nothing r).1 (told_status (refusal_told r) old new status 0 (omega arith) h e).0)
+no_carried : (n m : ℕ) → is_carried_out n ≡ true → n ≡ m → is_carried_out m ≡ false → ⊥
+no_carried n m carried same other =
+    let both : true ≡ false = sym carried ∙ ap is_carried_out same ∙ other in
+    cc
+
+pub refusal_is_no_result : {X : Type 0} (r : Refusal) (old new : Option (List ℕ)) (status : ℕ) → Tells (refusal_told r) old new status → is_carried_out status ≡ true → X
+refusal_is_no_result r old new status (inl (is, told)) carried = absurd (no_carried status (refusal_told r).status carried is (refusal_writes_nothing r).1)
+refusal_is_no_result r old new status (inr (inl four, front)) carried = absurd (no_carried status 4 carried four refl)
+refusal_is_no_result r old new status (inr (inr five, front)) carried = absurd (no_carried status 5 carried five refl)
 
 pub refusal_status : (r : Refusal) (old new : Option (List ℕ)) (status n : ℕ) → n < 4 → Tells (refusal_told r) old new status → status ≡ n → (refusal_told r).status ≡ n
 refusal_status r old new status n few h e = (told_status (refusal_told r) old new status n few h e).0
@@ -178,22 +200,20 @@ told_or_cut end old new status n (inr (inr five, front)) e = inr (inr five)
 
 -- ---- requests that were carried out
 
-closed_is_done : (c : Close) (text : List ℕ) → closed c text ≡ done text
-closed_is_done close.Done text = refl
+close_carries : (c : Close) → is_carried_out (close_status c) ≡ true
+close_carries close.Done = refl
+close_carries close.Yes = refl
+close_carries close.No = refl
+close_carries close.Spent = refl
 
-pub carried_out : (held : Option Files) (asked : Option Request) (c : Close) (old new : Option (List ℕ)) (noted now : Option (List ℕ)) (status : ℕ) → (written : Writes refusal_told (MayEnd true held asked) old new (Ok c)) → Tells (closed c written.0) noted now status → status ≡ 0
-    → (text : List ℕ) × IsResult held asked text × (new ≡ with_bytes old text) × (now ≡ noted)
-carried_out held asked c old new noted now status (text, e, w) told zero =
-    let done_text = closed_is_done c text in (
-      text,
-      result_of_request held asked text (subst (MayEnd true held asked) done_text e),
-      w,
-      (told_status (closed c text) noted now status 0 (omega arith) told zero).1 ∙ ap (λ (x : End). with_bytes noted x.note) done_text ∙ with_bytes_none noted,
-    )
+pub carried_out : (held : Option Files) (asked : Option Request) (c : Close) (old new : Option (List ℕ)) (noted now : Option (List ℕ)) (status : ℕ) → (written : Writes refusal_told (MayEnd true held asked) old new (Ok c)) → Tells (closed c written.0) noted now status → is_carried_out status ≡ true
+    → (end : End) × IsResult held asked end × (status ≡ end.status) × (new ≡ with_bytes old end.out) × (now ≡ noted)
+carried_out held asked c old new noted now status (text, e, w) (inl (is, told)) carried =
+    (closed c text, result_of_request held asked (closed c text) (close_carries c) e, is, w, told ∙ with_bytes_none noted)
+carried_out held asked c old new noted now status (text, e, w) (inr (inl four, front)) carried = absurd (no_carried status 4 carried four refl)
+carried_out held asked c old new noted now status (text, e, w) (inr (inr five, front)) carried = absurd (no_carried status 5 carried five refl)
 
 -- its status is no other one
-pub close_is_no_refusal : {X : Type 0} (c : Close) (text : List ℕ) (old new : Option (List ℕ)) (status n : ℕ) → 1 ≤ n → n < 4 → Tells (closed c text) old new status → status ≡ n → X
-close_is_no_refusal c text old new status n some few told e =
-    let is = (told_status (closed c text) old new status n few told e).0 in
-    let zero = ap (λ (x : End). x.status) (closed_is_done c text) in
-    absurd (omega arith)
+pub close_is_no_refusal : {X : Type 0} (c : Close) (text : List ℕ) (old new : Option (List ℕ)) (status n : ℕ) → n < 4 → is_carried_out n ≡ false → Tells (closed c text) old new status → status ≡ n → X
+close_is_no_refusal c text old new status n few other told e =
+    absurd (no_carried (close_status c) n (close_carries c) (told_status (closed c text) old new status n few told e).0 other)

@@ -1,3 +1,4 @@
 mod Results
 mod Built
 mod Answered
+pub mod Deciding

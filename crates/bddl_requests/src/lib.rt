@@ -1,4 +1,5 @@
-//! The requests of the program `bddl`: it compiles the files of a game to a quantified formula, and prints them.
+//! The requests of the program `bddl`: it compiles the files of a game to a quantified
+//! formula, decides games and formulas, and prints the files of a game.
 //!
 //! `run` is the whole program over any shelf of files and any two sinks. Read its contract first,
 //! and then `MayEnd` in `bddl_model/specs/Outcome.antt`.
@@ -6,5 +7,7 @@
 
 mod compile;
 mod program;
+mod solve;
+mod solve_formula;
 
 pub use program::run;

@@ -1,29 +1,35 @@
 // The top call.
-ghost use Rattle.std.specs.Prelude.{◌≡◌, ◌==◌, ◌<◌, ◌⊎◌, Bool, List, ℕ, None, true, false, length, map, IfOk, string_bytes};
-ghost use Rattle.bddl_model.specs.Outcome.{ContentEnds, End, IsResult, MayEnd};
+ghost use Rattle.std.specs.Prelude.{◌≡◌, ◌==◌, ◌<◌, ◌⊎◌, Bool, None, true, false, length, map, IfOk, string_bytes};
+ghost use Rattle.bddl_model.specs.Outcome.{ContentEnds, End, IsResult, MayEnd, is_carried_out};
 ghost use Rattle.bddl_model.specs.Request as spec;
 ghost use Rattle.bddl_model.specs.Request.{request_of};
 ghost use Rattle.io_edge.specs.Outside.{Counts, Rose, with_bytes};
-ghost use Rattle.request_parts.specs.Ends.{Answers, AreWithin, Tells, Writes, content_told, is_read_fault, is_write_fault, refusal_told};
+ghost use Rattle.request_parts.specs.Ends.{Answers, AreWithin, NotCut, Tells, Writes, content_told, is_read_fault, is_write_fault, refusal_told};
 
 use crate::compile::compile;
+use crate::solve::solve;
+use crate::solve_formula::solve_formula;
 use bddl_model::Command;
 use io_edge::{Shelf, Sink, SinkEnd, put_text};
+use qbf_search::Decider;
 use request_parts::{
     Close, Content, Refusal, Request, Stop, format_domain, format_problem, help, limits_of,
     note_of, read_files, read_request, status_of, version,
 };
 use std::alloc::{AllocError, Global};
 
-/// Carries out the request of the words, and answers the exit status: 0 where it was carried out,
-/// 1 where the words are no request, 2 where a file is refused, 3 where a named file could not be
-/// read, 4 where a write failed, 5 where memory ran out.
+/// Carries out the request of the words, and answers the exit status: 0 where it was carried out and
+/// had nothing to decide, 10, 20 and 30 where the game or the formula was decided in favour of Black,
+/// or against it, or its steps were spent, 1 where the words are no request, 2 where a file is
+/// refused, 3 where a named file could not be read, 4 where a write failed, 5 where memory ran out.
+/// The decider chooses what a search tries first; what is found doesn't depend on it.
 pub fn run<S: Shelf, K: Sink, N: Sink>(
     alloc: Global,
     words: &[Vec<u8>],
     shelf: &mut S,
     out: &mut K,
     note: &mut N,
+    decider: &mut Box<dyn Decider>,
 ) -> u8
     // The call ends as the words and the files say, or is cut short. Where no files are told, there are some of which it is so.
     ensures ends { Answers (MayEnd true (S.held shelf.old) (request_of (map (λ w. w.items) words.now)))
@@ -33,10 +39,11 @@ pub fn run<S: Shelf, K: Sink, N: Sink>(
     ensures calm { S.calm shelf.old → Answers (MayEnd false (S.held shelf.old) (request_of (map (λ w. w.items) words.now)))
         (K.written out.old) (K.written out.new) (N.written note.old) (N.written note.new) result }
 
-    // With 0 the whole of out is the result of what stands in the files, and nothing was noted. That of `compile` is the text of a
-    // form that encodes the game of the two files, and this form alone is read from the text: its value is that of winning.
-    ensures carried_out { result ≡ 0 → (text : List ℕ) × IsResult (S.held shelf.old) (request_of (map (λ w. w.items) words.now)) text
-        × (K.written out.new ≡ with_bytes (K.written out.old) text) × (N.written note.new ≡ N.written note.old) }
+    // With 0, 10, 20 and 30 the status and the whole of out are the result of what stands in the files, and nothing was noted.
+    // `compile` writes the text of a form that encodes the game of the two files, and this form alone is read from the text: its
+    // value is that of winning. `solve` and `qsolve` tell that value, or that the steps are spent, which are then below the bound.
+    ensures carried_out { is_carried_out result ≡ true → (end : End) × IsResult (S.held shelf.old) (request_of (map (λ w. w.items) words.now)) end
+        × (result ≡ end.status) × (K.written out.new ≡ with_bytes (K.written out.old) end.out) × (N.written note.new ≡ N.written note.old) }
 
     // 1 is for words that are no request.
     ensures words { result ≡ 1 → request_of (map (λ w. w.items) words.now) ≡ None }
@@ -51,7 +58,7 @@ pub fn run<S: Shelf, K: Sink, N: Sink>(
     ensures write_fault { result ≡ 4 → Rose (K.faults out.old) (K.faults out.new) ⊎ Rose (N.faults note.old) (N.faults note.new) }
     ensures write_rose { (K.faults out.old < K.faults out.new) ⊎ (N.faults note.old < N.faults note.new) → result ≡ 4 }
 {
-    match carry_out(alloc, words, shelf, out) {
+    match carry_out(alloc, words, shelf, out, decider) {
         Ok(close) => tell(close.status(), close.note(alloc), note),
         Err(Stop::Refused(refusal)) => tell(status_of(refusal), note_of(alloc, refusal), note),
         Err(Stop::WriteFault) => 4,
@@ -64,6 +71,7 @@ fn carry_out<S: Shelf, K: Sink>(
     words: &[Vec<u8>],
     shelf: &mut S,
     out: &mut K,
+    decider: &mut Box<dyn Decider>,
 ) -> Result<Close, Stop<Refusal>>
     ensures written { (faulty : Bool) → (faulty ≡ false → S.calm shelf.old)
         → Writes refusal_told (MayEnd faulty (S.held shelf.old) (request_of (map (λ w. w.items) words.now))) (K.written out.old) (K.written out.new) result }
@@ -75,7 +83,7 @@ fn carry_out<S: Shelf, K: Sink>(
     let request = read_request(alloc, words)?;
     let limits = limits_of(request.command);
     let contents = read_files(alloc, shelf, limits, request.files)?;
-    Ok(answer(alloc, &request, &contents, out)?)
+    Ok(answer(alloc, &request, &contents, out, decider)?)
 }
 
 // Carries out a request by the contents of its files.
@@ -84,6 +92,7 @@ fn answer<K: Sink>(
     request: &Request,
     contents: &[Vec<u8>],
     out: &mut K,
+    decider: &mut Box<dyn Decider>,
 ) -> Result<Close, Stop<Content>>
     requires within { AreWithin (spec.limits_of request.now.command) (map (λ w. w.items) contents.now) }
     requires numbers { length request.now.numbers.items ≡ spec.numbers_of request.now.command }
@@ -93,6 +102,17 @@ fn answer<K: Sink>(
 {
     match request.command {
         Command::Compile => compile(alloc, &contents[0], &contents[1], out),
+        Command::Solve => solve(
+            alloc,
+            &contents[0],
+            &contents[1],
+            request.numbers[0],
+            decider,
+            out,
+        ),
+        Command::SolveFormula => {
+            solve_formula(alloc, &contents[0], request.numbers[0], decider, out)
+        }
         Command::FormatDomain => format_domain(alloc, &contents[0], out),
         Command::FormatProblem => format_problem(alloc, &contents[0], out),
         Command::Help => help(out),
@@ -102,7 +122,7 @@ fn answer<K: Sink>(
 
 // Notes a line, which may be empty, and answers the status.
 fn tell<N: Sink>(status: u8, line: Result<String, AllocError>, note: &mut N) -> u8
-    requires { status < 4 }
+    requires { NotCut status }
     ensures told { (end : End) → status ≡ end.status → IfOk line (λ text. string_bytes text ≡ end.note)
         → Tells end (N.written note.old) (N.written note.new) result }
     ensures cause { Counts (N.faults note.old) (N.faults note.new) (result == 4) }

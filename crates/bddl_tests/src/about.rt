@@ -18,8 +18,8 @@ fn told(rt: &impl Abort, alloc: Global, word: &[u8]) -> Result<Vec<u8>, Fail> {
 fn help_has_a_line_for_each_request_and_each_status(rt: HostRuntime) -> Result<(), Fail> {
     let text = told(&rt, rt.alloc(), b"help")?;
     assert!(rt; text.starts_with(b"bddl compile DOMAIN PROBLEM "));
-    assert!(rt; text.ends_with(b"\n5  memory ran out\n"));
-    assert_eq!(rt; text.iter().filter(|byte| **byte == b'\n').count(), 12);
+    assert!(rt; text.ends_with(b"\n30  the steps are spent\n"));
+    assert_eq!(rt; text.iter().filter(|byte| **byte == b'\n').count(), 17);
     assert_eq!(rt;
         told(&rt, rt.alloc(), b"--help")?.as_slice(),
         text.as_slice()

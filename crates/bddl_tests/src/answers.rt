@@ -3,6 +3,7 @@ use crate::reading_back::assert_reads_back;
 use bddl_model::NoMemory;
 use bddl_requests::run;
 use io_edge::{MemoryShelf, MemorySink, SteadySink};
+use qbf_search::{Decider, PlainDecider};
 use std::alloc::{AllocError, Global};
 use std::process::Abort;
 use std::str;
@@ -29,6 +30,11 @@ pub fn words_of(alloc: Global, texts: &[&[u8]]) -> Result<Vec<Vec<u8>>, AllocErr
     Ok(words)
 }
 
+/// The decider that the program has.
+pub fn plain_decider(alloc: Global) -> Result<Box<dyn Decider>, Fail> {
+    Ok(Box::new(alloc, PlainDecider::new())?)
+}
+
 /// A status, and what was written to out and to note.
 #[derive(Debug, Drop)]
 pub struct Answer {
@@ -37,15 +43,21 @@ pub struct Answer {
     pub note: Vec<u8>,
 }
 
-pub fn answer_of(
+pub fn answer_of(alloc: Global, words: &[&[u8]], shelf: &mut MemoryShelf) -> Result<Answer, Fail> {
+    answer_under(alloc, words, shelf, &mut plain_decider(alloc)?)
+}
+
+/// The same under another decider.
+pub fn answer_under(
     alloc: Global,
     words: &[&[u8]],
     shelf: &mut MemoryShelf,
-) -> Result<Answer, AllocError> {
+    decider: &mut Box<dyn Decider>,
+) -> Result<Answer, Fail> {
     let words = words_of(alloc, words)?;
     let mut out = SteadySink::new(alloc);
     let mut note = SteadySink::new(alloc);
-    let status = run(alloc, &words, shelf, &mut out, &mut note);
+    let status = run(alloc, &words, shelf, &mut out, &mut note, decider);
     Ok(Answer {
         status,
         out: out.bytes().to_vec(alloc)?,
@@ -132,7 +144,9 @@ pub fn assert_out_fails(
     out.fail_at(1, kept)?;
     let mut note = SteadySink::new(alloc);
     let words = words_of(alloc, words)?;
-    assert_eq!(rt; run(alloc, &words, &mut shelf, &mut out, &mut note), 4);
+    let mut decider = plain_decider(alloc)?;
+    let status = run(alloc, &words, &mut shelf, &mut out, &mut note, &mut decider);
+    assert_eq!(rt; status, 4);
     assert_eq!(rt;
         Some(out.bytes()),
         text.get(..text.len().min(kept as usize))
@@ -154,7 +168,9 @@ pub fn assert_note_fails(
     let mut note = MemorySink::new(alloc);
     note.fail_at(1, kept)?;
     let words = words_of(alloc, words)?;
-    assert_eq!(rt; run(alloc, &words, &mut shelf, &mut out, &mut note), 4);
+    let mut decider = plain_decider(alloc)?;
+    let status = run(alloc, &words, &mut shelf, &mut out, &mut note, &mut decider);
+    assert_eq!(rt; status, 4);
     assert_eq!(rt;
         Some(note.bytes()),
         text.get(..text.len().min(kept as usize))

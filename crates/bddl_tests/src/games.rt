@@ -1,6 +1,6 @@
 // Formulas of games with moves: their prefixes, their sizes and their values.
 
-use crate::answers::{shelf_of, text_of, words_of};
+use crate::answers::{plain_decider, shelf_of, text_of, words_of};
 use crate::domains::{ADVANCE, NONE, OCCUPY};
 use crate::evaluator::Evaluator;
 use crate::formula::Formula;
@@ -12,7 +12,7 @@ use std::process::Abort;
 use std::test::Fail;
 
 // Five in a row, a stone from Black's open four.
-const FIVE: &str = "#boardsize 15 15
+pub const FIVE: &str = "#boardsize 15 15
 #init (black(6,8) black(7,8) black(8,8) black(7,6) black(9,9) black(4,4)
 white(1,1) white(15,1) white(15,15) white(1,15) white(7,9) white(5,3))
 #depth 5
@@ -140,7 +140,15 @@ fn a_failing_third_write_leaves_two_pieces_and_a_front(rt: HostRuntime) -> Resul
         let mut out = MemorySink::new(rt.alloc());
         out.fail_at(3, kept)?;
         let mut note = SteadySink::new(rt.alloc());
-        let status = run(rt.alloc(), &words, &mut shelf, &mut out, &mut note);
+        let mut decider = plain_decider(rt.alloc())?;
+        let status = run(
+            rt.alloc(),
+            &words,
+            &mut shelf,
+            &mut out,
+            &mut note,
+            &mut decider,
+        );
         assert!(rt; status == 4 && note.bytes().is_empty());
         assert_eq!(rt; Some(out.bytes()), text.get(..length));
     }

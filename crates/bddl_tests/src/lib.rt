@@ -26,4 +26,8 @@ mod reading_back;
 #[cfg(test)]
 mod requests;
 #[cfg(test)]
+mod solving;
+#[cfg(test)]
+mod solving_formulas;
+#[cfg(test)]
 mod start_positions;

@@ -45,7 +45,7 @@ fn boards_of_all_sizes_compile(rt: HostRuntime) -> Result<(), Fail> {
 
 #[test]
 fn other_words_are_no_request(rt: HostRuntime) -> Result<(), Fail> {
-    let cases: [&[&[u8]]; 13] = [
+    let cases: [&[&[u8]]; 21] = [
         &[],
         &[b"resolve"],
         &[b"compile"],
@@ -55,6 +55,14 @@ fn other_words_are_no_request(rt: HostRuntime) -> Result<(), Fail> {
         &[b"fmt-domain"],
         &[b"fmt-problem", b"p", b"p"],
         &[b"fmt", b"d"],
+        &[b"solve", b"d", b"p"],
+        &[b"solve", b"d", b"p", b"+1"],
+        &[b"solve", b"d", b"p", b"01"],
+        &[b"solve", b"d", b"p", b"18446744073709551616"],
+        &[b"solve", b"d", b"p", b"1", b"1"],
+        &[b"qsolve", b"d"],
+        &[b"qsolve", b"d", b""],
+        &[b"qsolve", b"d", b"1 "],
         &[b"help", b"d"],
         &[b"--version", b"d"],
         &[b"-help"],

@@ -21,7 +21,11 @@ fn assert_faults(rt: &impl Abort, alloc: Global, cases: &[(&[u8], QFault)]) {
 
 fn assert_bad_words(rt: &impl Abort, alloc: Global, line: u32, texts: &[&[u8]]) {
     for text in texts {
-        assert_eq!(rt; fault_of(rt, alloc, text), Some(QFault::BadWord { line }), "{text:?}");
+        assert_eq!(rt;
+            fault_of(rt, alloc, text),
+            Some(QFault::BadWord { line }),
+            "{text:?}"
+        );
     }
 }
 
@@ -112,7 +116,13 @@ fn the_greatest_number_of_variables(rt: HostRuntime) {
         (16_777_215, 1),
         b"p cnf 16777215 1\ne 16777215 0\n-16777215 0\n",
     );
-    assert_read(&rt, rt.alloc(), b"p cnf 16777215 0\n", (16_777_215, 0), b"p cnf 0 0\n");
+    assert_read(
+        &rt,
+        rt.alloc(),
+        b"p cnf 16777215 0\n",
+        (16_777_215, 0),
+        b"p cnf 0 0\n",
+    );
 }
 
 // ---- faults
@@ -262,6 +272,10 @@ fn fault_of_front(length: usize) -> Option<QFault> {
 fn each_front_of_a_text_has_its_fault(rt: HostRuntime) {
     for length in 0..TEXT.len() + 1 {
         let (front, _) = TEXT.split_at(length);
-        assert_eq!(rt; fault_of(&rt, rt.alloc(), front), fault_of_front(length), "{length}");
+        assert_eq!(rt;
+            fault_of(&rt, rt.alloc(), front),
+            fault_of_front(length),
+            "{length}"
+        );
     }
 }

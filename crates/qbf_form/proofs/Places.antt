@@ -10,26 +10,26 @@ use Rattle.bddl_model.proofs.NumberLists.{AllPass-append, has_append}
 use Rattle.bddl_model.proofs.NumbersApart.{apart_push}
 use Rattle.qbf_form.specs.Places.{place_from, place_in, KeepsPlaces}
 
-place_low : (n : ℕ) (vs : List ℕ) (v : ℕ) → has_number vs v ≡ true → n ≤ place_from n vs v
+pub place_low : (n : ℕ) (vs : List ℕ) (v : ℕ) → has_number vs v ≡ true → n ≤ place_from n vs v
 place_low n [] v h = absurd cc
 place_low n (w ∷ ws) v h = elim (cases_Bool (w == v)) [
   | inl same ↦ rw same (omega arith)
   | inr other ↦ rw other (let later = place_low (suc n) ws v (rw other at h) in omega arith)
 ]
 
-no_place : (n : ℕ) (vs : List ℕ) (v : ℕ) → has_number vs v ≡ false → place_from n vs v ≡ 0
+pub no_place : (n : ℕ) (vs : List ℕ) (v : ℕ) → has_number vs v ≡ false → place_from n vs v ≡ 0
 no_place n [] v h = refl
 no_place n (w ∷ ws) v h =
     let parts = or_parts (w == v) (has_number ws v) h in
     rw parts.0 (no_place (suc n) ws v parts.1)
 
-place_of_last : (n : ℕ) (vs : List ℕ) (v : ℕ) → has_number vs v ≡ false → place_from n (vs ++ v ∷ []) v ≡ n + length vs
+pub place_of_last : (n : ℕ) (vs : List ℕ) (v : ℕ) → has_number vs v ≡ false → place_from n (vs ++ v ∷ []) v ≡ n + length vs
 place_of_last n [] v h = rw (eq-eqb v v refl) (omega arith)
 place_of_last n (w ∷ ws) v h =
     let parts = or_parts (w == v) (has_number ws v) h in
     rw parts.0 (let later = place_of_last (suc n) ws v parts.1 in omega arith)
 
-place_of_other : (n : ℕ) (vs : List ℕ) (x v : ℕ) → (x == v) ≡ false → place_from n (vs ++ x ∷ []) v ≡ place_from n vs v
+pub place_of_other : (n : ℕ) (vs : List ℕ) (x v : ℕ) → (x == v) ≡ false → place_from n (vs ++ x ∷ []) v ≡ place_from n vs v
 place_of_other n [] x v h = rw h refl
 place_of_other n (w ∷ ws) x v h = elim (cases_Bool (w == v)) [
   | inl same ↦ rw same refl

@@ -1,5 +1,5 @@
 -- Variables that stand apart: how many there are at most, and that they keep their number in another order.
-use Rattle.std.proofs.Common.{◌≡◌, ℕ, zero, suc, ◌+◌, ◌≤◌, ◌<◌, true, false, ◌||◌, List, [], ◌∷◌, ◌++◌, length, inl, inr, refl, sym, ap₂, ◌∙◌, arith, eqb-true, ne_eqb}
+use Rattle.std.proofs.Common.{◌≡◌, ℕ, zero, suc, ◌+◌, ◌≤◌, ◌<◌, true, false, ◌||◌, List, [], ◌∷◌, length, inl, inr, refl, sym, ap₂, ◌∙◌, arith, eqb-true, ne_eqb}
 use Rattle.std.specs.Prelude.{◌==◌, nat_eq}
 use Rattle.std.specs.List.{IsDistinct, AllByRecursion, list_any}
 use Rattle.std.specs.Set.{is_member}
@@ -9,7 +9,7 @@ use Rattle.std.proofs.lemmas.Map.Made.{length-le_from_is_member}
 use Rattle.std.proofs.lemmas.Map.Steps.{length-le_from_distinct_below}
 use Rattle.bddl_model.specs.Forms.{has_number, in_range, AllInRange, AllApart, AllAmong}
 use Rattle.bddl_model.proofs.Assignments.{eqb_turned}
-use Rattle.bddl_model.proofs.NumberLists.{has_append, one_passes}
+use Rattle.bddl_model.proofs.NumberLists.{one_passes}
 use Rattle.bddl_model.proofs.PlainTokens.{in_range_is}
 
 apart_is_distinct : (vs : List ℕ) → AllApart vs → IsDistinct nat_eq vs

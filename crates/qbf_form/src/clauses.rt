@@ -1,5 +1,5 @@
 // Clauses, their literals in one list.
-ghost use Rattle.std.specs.Prelude.{◌≡◌, ◌<◌, ◌≤◌, ◌-◌, [], ◌∷◌, ◌++◌, length, take, drop, OnOk, OnErr, slice_index_or};
+ghost use Rattle.std.specs.Prelude.{◌≡◌, ◌<◌, ◌≤◌, ◌-◌, [], ◌∷◌, ◌++◌, length, take, drop, IfOk, OnOk, OnErr, slice_index_or};
 ghost use Rattle.qbf_form.specs.Stored.{cut, start_from, EndsAt};
 
 use bddl_model::{Lit, NoMemory};
@@ -63,6 +63,16 @@ impl Clauses {
             literals: Vec::new(alloc),
             ends: Vec::new(alloc),
         }
+    }
+
+    /// Clauses of their own, the same.
+    pub fn copy(&self, alloc: Global) -> Result<Clauses, NoMemory>
+        ensures { IfOk result (λ copy. copy ≡ self.now) }
+    {
+        Ok(Clauses {
+            literals: Vec::from_slice(alloc, &self.literals)?,
+            ends: Vec::from_slice(alloc, &self.ends)?,
+        })
     }
 
     /// Adds a clause behind the others, or leaves them as they were.

@@ -1,5 +1,5 @@
 // A form: a prefix and clauses that fit it.
-ghost use Rattle.std.specs.Prelude.{◌≡◌, ◌<◌, [], ◌∷◌, ◌++◌, length, OnOk, OnErr, slice_index_or};
+ghost use Rattle.std.specs.Prelude.{◌≡◌, ◌<◌, [], ◌∷◌, ◌++◌, length, IfOk, OnOk, OnErr, slice_index_or};
 ghost use Rattle.bddl_model.specs.Forms.{FitsPrefix, AllFitPrefix, IsForm};
 
 use crate::clauses::Clauses;
@@ -44,6 +44,16 @@ impl Form {
         ensures { result ≡ record { prefix = prefix; clauses = clauses } }
     {
         Form { prefix, clauses }
+    }
+
+    /// A form of its own with the same prefix and the same clauses.
+    pub fn copy(&self, alloc: Global) -> Result<Form, NoMemory>
+        ensures { IfOk result (λ copy. copy ≡ self.now) }
+    {
+        Ok(Form {
+            prefix: self.prefix.copy(alloc)?,
+            clauses: self.clauses.copy(alloc)?,
+        })
     }
 
     /// A law: each form keeps to what a formula keeps to that is decided.

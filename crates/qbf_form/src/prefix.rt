@@ -1,5 +1,5 @@
 // A prefix that binds each variable once.
-ghost use Rattle.std.specs.Prelude.{◌≡◌, ℕ, ◌≤◌, ◌<◌, true, false, [], ◌∷◌, ◌++◌, length, OnOk, OnErr, slice_index_or};
+ghost use Rattle.std.specs.Prelude.{◌≡◌, ℕ, ◌≤◌, ◌<◌, true, false, [], ◌∷◌, ◌++◌, length, IfOk, OnOk, OnErr, slice_index_or};
 ghost use Rattle.bddl_model.specs.Forms.{has_number, greatest_variables, prefix_variables, AllInRange, AllApart};
 ghost use Rattle.qbf_form.specs.Places.{place_in};
 
@@ -51,6 +51,16 @@ impl Prefix {
         }
     }
 
+    /// A prefix of its own with the same variables.
+    pub fn copy(&self, alloc: Global) -> Result<Prefix, NoMemory>
+        ensures { IfOk result (λ copy. copy ≡ self.now) }
+    {
+        Ok(Prefix {
+            bounds: Vec::from_slice(alloc, &self.bounds)?,
+            places: Vec::from_slice(alloc, &self.places)?,
+        })
+    }
+
     /// A law: each prefix binds its variables once, and they are in range.
     pub fn keeps_its_variables(&self)
         ensures in_range { AllInRange greatest_variables (prefix_variables self.now) }
@@ -61,7 +71,7 @@ impl Prefix {
     }
 
     /// The variable's place among the bounds, counted from 1; 0 where it has none.
-    pub(crate) fn place(&self, var: Var) -> u32
+    pub fn place(&self, var: Var) -> u32
         ensures { result ≡ place_in (prefix_variables self.now) var.0 }
     {
         match self.places.get(var.0 as usize) {
@@ -71,7 +81,7 @@ impl Prefix {
     }
 
     /// A number that is above each variable.
-    pub(crate) fn room(&self) -> usize
+    pub fn room(&self) -> usize
         ensures { (v : ℕ) → has_number (prefix_variables self.now) v ≡ true → v < result }
     {
         self.places.len()

@@ -8,3 +8,4 @@ pub mod Literals
 pub mod Following
 pub mod TextForms
 pub mod Whole
+pub mod Answering

@@ -10,6 +10,7 @@
 //! `bddl_model`.
 #![tactic(auto)]
 
+mod answer;
 mod clause;
 mod head;
 mod marks;
@@ -22,6 +23,7 @@ mod tokens;
 mod words;
 mod write;
 
+pub use answer::write_answer;
 pub use clause::{add_clause, write_clause};
 pub use head::{add_head, write_head};
 pub use read::{QdimacsRead, read_qdimacs};

@@ -1,7 +1,6 @@
 // Marks of numbers.
-ghost use Rattle.std.specs.Prelude.{◌≡◌, ℕ, ◌<◌, true, false, length, slice_set, slice_index_or, replicate, IfOk};
-ghost use Rattle.bddl_model.specs.Forms.{has_number};
-ghost use Rattle.qdimacs_io.specs.MarkSets.{AllBelow, table, no_mark};
+ghost use Rattle.std.specs.Prelude.{◌≡◌, ◌<◌, true, false, length, slice_set, slice_index_or, IfOk};
+ghost use Rattle.qdimacs_io.specs.MarkSets.{table, no_mark};
 
 use bddl_model::NoMemory;
 use std::alloc::Global;

@@ -1,6 +1,6 @@
 // A clause whose end has not been read.
-ghost use Rattle.std.specs.Prelude.{◌≡◌, ℕ, ◌+◌, ◌*◌, ◌<◌, ◌≤◌, true, false, length, slice_index_or, IfOk, OnOk};
-ghost use Rattle.bddl_model.specs.Forms.{has_number, greatest_variables};
+ghost use Rattle.std.specs.Prelude.{◌≡◌, ℕ, ◌+◌, ◌*◌, ◌<◌, true, false, length, slice_index_or, IfOk, OnOk};
+ghost use Rattle.bddl_model.specs.Forms.{has_number};
 ghost use Rattle.qdimacs_io.specs.MarkSets.{AllBelow, table, no_mark, literal_number, literal_numbers};
 ghost use Rattle.qdimacs_io.specs.States.{no_literals, none_open, with_literal, with_open};
 

@@ -1,10 +1,8 @@
--- An end with status 0 is no refusal.
-use Rattle.std.proofs.Common.{ℕ, false, true, ◌≡◌, List, refl, ap, subst}
-use Rattle.std.specs.Prelude.{◌==◌}
-use Rattle.bddl_model.specs.Outcome.{End, refused, done}
+-- An end of a request that is carried out is no refusal.
+use Rattle.std.proofs.Common.{ℕ, false, true, ◌≡◌, List, sym, ap, ◌∙◌}
+use Rattle.bddl_model.specs.Outcome.{End, refused, is_carried_out}
 
-pub not_refused : (text : List ℕ) (status : ℕ) (note : List ℕ) → (status == 0) ≡ false → done text ≡ refused status note → ⊥
-not_refused text status note other e =
-    let zero : 0 ≡ status = ap (λ (x : End). x.status) e in
-    let same : (status == 0) ≡ true = subst (λ n. (n == 0) ≡ true) zero refl in
+pub not_refused : (end : End) (status : ℕ) (note : List ℕ) → is_carried_out end.status ≡ true → is_carried_out status ≡ false → end ≡ refused status note → ⊥
+not_refused end status note carried other e =
+    let same : true ≡ false = sym carried ∙ ap (λ (x : End). is_carried_out x.status) e ∙ other in
     cc

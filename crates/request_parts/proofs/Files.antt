@@ -5,7 +5,7 @@ use Rattle.std.specs.FinMap.{get}
 use Rattle.std.proofs.lemmas.List.{take_more, drop_more, length_push, map-append, map_more}
 use Rattle.bddl_model.specs.Files.{Files, file_at}
 use Rattle.bddl_model.specs.Notes.{read_fault, too_long}
-use Rattle.bddl_model.specs.Outcome.{End, done, refused, FileThen, FilesThen, Finds, IsWithin}
+use Rattle.bddl_model.specs.Outcome.{End, refused, is_carried_out, FileThen, FilesThen, Finds, IsWithin}
 use Rattle.io_edge.specs.Outside.{Delivers, cut_file}
 use Rattle.request_parts.specs.Ends.{AreWithin, FindsOne, Nothing, StopsAt, refusal_told}
 use Rattle.request_parts.specs.declared.refusal.Refusal.{Refusal}
@@ -110,18 +110,18 @@ files_then faulty word (l ∷ limits) (None ∷ found) next end h = h
 files_then faulty word (l ∷ limits) (Some file ∷ found) next end (inl h) = inl (h.0, files_then faulty (word + 1) limits found (λ cs. next (file ∷ cs)) end h.1)
 files_then faulty word (l ∷ limits) (Some file ∷ found) next end (inr h) = inr h
 
--- a status of 0 says that all were read
-pub files_were_read : (word : ℕ) (limits : List (Option ℕ)) (found : List (Option (List ℕ))) (next : List (List ℕ) → End → Type 0) (text : List ℕ) → FilesThen true word limits found next (done text)
-    → (contents : List (List ℕ)) × (found ≡ map Some contents) × next contents (done text)
-files_were_read word [] [] next text h = ([], refl, h)
-files_were_read word [] (f ∷ found) next text h = absurd h
-files_were_read word (l ∷ limits) [] next text h = absurd h
-files_were_read word (l ∷ limits) (None ∷ found) next text h = absurd (not_refused text 3 _ refl h)
-files_were_read word (l ∷ limits) (Some file ∷ found) next text (inl h) =
-    let rest = files_were_read (word + 1) limits found (λ cs. next (file ∷ cs)) text h.1 in
+-- where the request is carried out, all were read
+pub files_were_read : (word : ℕ) (limits : List (Option ℕ)) (found : List (Option (List ℕ))) (next : List (List ℕ) → End → Type 0) (end : End) → is_carried_out end.status ≡ true → FilesThen true word limits found next end
+    → (contents : List (List ℕ)) × (found ≡ map Some contents) × next contents end
+files_were_read word [] [] next end carried h = ([], refl, h)
+files_were_read word [] (f ∷ found) next end carried h = absurd h
+files_were_read word (l ∷ limits) [] next end carried h = absurd h
+files_were_read word (l ∷ limits) (None ∷ found) next end carried h = absurd (not_refused end 3 _ carried refl h)
+files_were_read word (l ∷ limits) (Some file ∷ found) next end carried (inl h) =
+    let rest = files_were_read (word + 1) limits found (λ cs. next (file ∷ cs)) end carried h.1 in
     (file ∷ rest.0, ap (λ fs. Some file ∷ fs) rest.1, rest.2)
-files_were_read word (l ∷ limits) (Some file ∷ found) next text (inr (inl h)) = absurd (not_refused text 2 _ refl h.3)
-files_were_read word (l ∷ limits) (Some file ∷ found) next text (inr (inr h)) = absurd (not_refused text 3 _ refl h.1)
+files_were_read word (l ∷ limits) (Some file ∷ found) next end carried (inr (inl h)) = absurd (not_refused end 2 _ carried refl h.3)
+files_were_read word (l ∷ limits) (Some file ∷ found) next end carried (inr (inr h)) = absurd (not_refused end 3 _ carried refl h.1)
 
 -- ---- one file after the other
 

@@ -46,5 +46,6 @@ pub check_stops : (d p : List ℕ) (dom : DomainText) (prob : ProblemText) (f : 
 check_stops d p dom prob f checked (stop.Refused (content.Check g)) h r q (inl e) is = inr (dom, r, inr (prob, q, inl (f, sym e ∙ h, ap (λ x. refused 2 (check_note x)) is)))
 check_stops d p dom prob f checked (stop.Refused (content.Check g)) h r q (inr e) is = absurd (g.is_found (is ∙ one_fault f check.NoMemory checked h e))
 check_stops d p dom prob f checked (stop.Refused (content.Text text place fault)) h r q found is = absurd is
+check_stops d p dom prob f checked (stop.Refused (content.Formula fault)) h r q found is = absurd is
 check_stops d p dom prob f checked stop.WriteFault h r q found is = absurd is
 check_stops d p dom prob f checked stop.NoMemory h r q found is = tt

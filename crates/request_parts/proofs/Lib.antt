@@ -3,3 +3,4 @@ pub mod Files
 pub mod Stopping
 pub mod Games
 pub mod Numbers
+pub mod Formulas

@@ -8,7 +8,8 @@ use Rattle.io_edge.specs.Outside.{Counts, with_bytes, WithFront}
 use Rattle.io_edge.specs.declared.sink.SinkEnd.{SinkEnd}
 use Rattle.io_edge.specs.declared.sink.SinkEnd.TheVariants as sink
 use Rattle.request_parts.specs.Stops.{stop_of_sink}
-use Rattle.request_parts.specs.Ends.{Nothing, StopsAt, Writes, is_write_fault}
+use Rattle.request_parts.specs.Ends.{Nothing, StopsAt, Writes, closed, is_write_fault}
+use Rattle.request_parts.specs.declared.refusal.Close.{Close}
 use Rattle.request_parts.specs.declared.refusal.Close.TheVariants as close
 use Rattle.request_parts.specs.declared.refusal.Stop.{Stop}
 use Rattle.request_parts.specs.declared.refusal.Stop.TheVariants as stop
@@ -24,13 +25,20 @@ stops_writing told ends (stop.Refused r) old h = (refl, h)
 stops_writing told ends stop.WriteFault old h = absurd h
 stops_writing told ends stop.NoMemory old h = inl refl
 
+module _ {R : Type 0} (told : R → End) (ends : End → Type 0) (c : Close) (text : List ℕ) (out : ends (closed c text)) (old new : Option (List ℕ)) where
+  pub closed_is_written : new ≡ with_bytes old text → Writes told ends old new (Ok c)
+  closed_is_written w = (text, out, w)
+
+  pub closed_is_cut : (end : SinkEnd) → WithFront old new text → Writes told ends old new (Err (stop_of_sink end))
+  closed_is_cut sink.Failed w = inr (closed c text, out, w)
+  closed_is_cut sink.NoMemory w = inr (closed c text, out, w)
+
 module _ {R : Type 0} (told : R → End) (ends : End → Type 0) (text : List ℕ) (out : ends (done text)) (old new : Option (List ℕ)) where
   pub text_is_written : new ≡ with_bytes old text → Writes told ends old new (Ok close.Done)
-  text_is_written w = (text, out, w)
+  text_is_written = closed_is_written told ends close.Done text out old new
 
   pub text_is_cut : (end : SinkEnd) → WithFront old new text → Writes told ends old new (Err (stop_of_sink end))
-  text_is_cut sink.Failed w = inr (done text, out, w)
-  text_is_cut sink.NoMemory w = inr (done text, out, w)
+  text_is_cut = closed_is_cut told ends close.Done text out old new
 
 -- nothing was written
 pub stops_cut : {R : Type 0} (told : R → End) (ends : End → Type 0) (old new : Option (List ℕ)) (end : SinkEnd) → new ≡ old → Writes told ends old new (Err (stop_of_sink end))

@@ -5,6 +5,7 @@ use Rattle.bddl_model.specs.declared.tokens.LexFault.TheVariants as lex
 use Rattle.bddl_model.specs.declared.fault.ReadFault.{ReadFault}
 use Rattle.bddl_model.specs.declared.fault.ReadFault.TheVariants as fault
 use Rattle.bddl_model.specs.Notes as notes
+use Rattle.bddl_model.specs.Truth.{Formula}
 use Rattle.bddl_model.specs.Files.{Files}
 use Rattle.bddl_model.specs.Outcome.{End, refused, FileThen, FilesThen, IsWithin}
 use Rattle.io_edge.specs.Outside.{with_bytes, WithFront}
@@ -25,9 +26,12 @@ use Rattle.request_parts.specs.declared.refusal.Stop.TheVariants as stop
 -- the status and the note of a request that was carried out
 abbrev pub close_status : Close → ℕ
 close_status close.Done = 0
+close_status close.Yes = 10
+close_status close.No = 20
+close_status close.Spent = 30
 
 abbrev pub close_note : Close → List ℕ
-close_note close.Done = []
+close_note c = []
 
 -- how it ends that wrote this text
 abbrev pub closed : Close → List ℕ → End
@@ -40,6 +44,7 @@ text_name game_text.Problem = codes "problem"
 abbrev pub content_told : Content → End
 content_told (content.Text text place f) = refused 2 (notes.place_note (text_name text) place (notes.fault_words f))
 content_told (content.Check f) = refused 2 (notes.check_note f.fault)
+content_told (content.Formula f) = refused 2 (notes.formula_note f.fault)
 
 abbrev pub refusal_told : Refusal → End
 refusal_told refusal.NoRequest = refused 1 notes.no_such_request
@@ -84,6 +89,9 @@ StopsAt told ends stop.NoMemory = Unit {0}
 -- nothing goes on
 abbrev pub Nothing : {A : Type 0} → A → End → Type 0
 Nothing x end = ⊥
+
+abbrev pub NoFormula : ℕ → ℕ → Formula → End → Type 0
+NoFormula variables clauses form end = ⊥
 
 -- a write failed
 abbrev pub is_write_fault : {T R : Type 0} → Result T (Stop R) → Bool
@@ -140,6 +148,10 @@ EndsAs end out_old out_new note_old note_new status =
 pub record Answers (ends : End → Type 0) (out_old out_new note_old note_new : Option (List ℕ)) (status : ℕ) : Type 0 where
   pub whole : status ≢ 4 → status ≢ 5 → (end : End) × ends end × EndsAs end out_old out_new note_old note_new status
   pub cut : (status ≡ 4) ⊎ (status ≡ 5) → ((out_new ≡ out_old) × (note_new ≡ note_old)) ⊎ ((end : End) × ends end × WithFront out_old out_new end.out × WithFront note_old note_new end.note)
+
+-- the status is that of a call that isn't cut short
+abbrev pub NotCut : ℕ → Type 0
+NotCut status = (status ≢ 4) × (status ≢ 5)
 
 -- the note of an end was written whole, or a front of it
 abbrev pub Tells : End → Option (List ℕ) → Option (List ℕ) → ℕ → Type 0

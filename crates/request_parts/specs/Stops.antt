@@ -2,6 +2,8 @@
 use Rattle.std.specs.Prelude.{◌≡◌}
 use Rattle.bddl_model.specs.declared.check.CheckFault.{CheckFault}
 use Rattle.bddl_model.specs.declared.check.CheckFault.TheVariants as check
+use Rattle.bddl_model.specs.declared.fault.QFault.{QFault}
+use Rattle.bddl_model.specs.declared.fault.QFault.TheVariants as formula
 use Rattle.io_edge.specs.declared.sink.SinkEnd.{SinkEnd}
 use Rattle.io_edge.specs.declared.sink.SinkEnd.TheVariants as sink
 use Rattle.request_parts.specs.declared.refusal.Content.{Content}
@@ -20,6 +22,12 @@ abbrev pub IsStopOf : CheckFault → Stop Content → Type 0
 IsStopOf fault stop.NoMemory = fault ≡ check.NoMemory
 IsStopOf fault (stop.Refused (content.Check f)) = f.fault ≡ fault
 IsStopOf fault _ = ⊥
+
+-- want of memory stops it as such, and a fault of the text as this fault
+abbrev pub IsFormulaStopOf : QFault → Stop Content → Type 0
+IsFormulaStopOf fault stop.NoMemory = fault ≡ formula.NoMemory
+IsFormulaStopOf fault (stop.Refused (content.Formula f)) = f.fault ≡ fault
+IsFormulaStopOf fault _ = ⊥
 
 abbrev pub stop_of_content : Stop Content → Stop Refusal
 stop_of_content (stop.Refused c) = stop.Refused (refusal.Content c)

@@ -15,17 +15,22 @@ pub fn help<K: Sink>(out: &mut K) -> Result<Close, Stop<Content>>
     put_text(
         out,
         b"bddl compile DOMAIN PROBLEM   writes the formula of a game\n\
+        bddl solve DOMAIN PROBLEM N   decides a game, in at most N steps\n\
+        bddl qsolve FORMULA N         decides a formula, in at most N steps\n\
         bddl fmt-domain DOMAIN        writes the canonical text of a domain\n\
         bddl fmt-problem PROBLEM      writes the canonical text of a problem\n\
         bddl help, bddl --help        writes this text\n\
         bddl version, bddl --version  writes the name, and the kit that proved the program\n\
         \n\
-        0  the text was written\n\
-        1  there is no such request\n\
-        2  a file is refused\n\
-        3  a file could not be read\n\
-        4  a write failed\n\
-        5  memory ran out\n",
+        0   the text was written\n\
+        1   there is no such request\n\
+        2   a file is refused\n\
+        3   a file could not be read\n\
+        4   a write failed\n\
+        5   memory ran out\n\
+        10  the game is won, or the formula is true\n\
+        20  the game is not won, or the formula is false\n\
+        30  the steps are spent\n",
     )?;
     Ok(Close::Done)
 }

@@ -7,12 +7,21 @@ use bddl_model::Command;
 // The most bytes of a game file.
 const GAME: Option<u64> = Some(1_048_576);
 
+// The most bytes of a formula file.
+const FORMULA: Option<u64> = Some(67_108_864);
+
 /// The command that a word names.
 pub fn named(word: &[u8]) -> Option<Command>
     ensures { result ≡ spec.first_named word.now spec.commands }
 {
     if word == b"compile".as_slice() {
         return Some(Command::Compile);
+    }
+    if word == b"solve".as_slice() {
+        return Some(Command::Solve);
+    }
+    if word == b"qsolve".as_slice() {
+        return Some(Command::SolveFormula);
     }
     if word == b"fmt-domain".as_slice() {
         return Some(Command::FormatDomain);
@@ -35,7 +44,8 @@ pub fn limits_of(command: Command) -> &'static [Option<u64>]
     ensures few { length result.now ≤ 3 }
 {
     match command {
-        Command::Compile => &[GAME, GAME],
+        Command::Compile | Command::Solve => &[GAME, GAME],
+        Command::SolveFormula => &[FORMULA],
         Command::FormatDomain | Command::FormatProblem => &[GAME],
         Command::Help | Command::Version => &[],
     }
@@ -47,6 +57,7 @@ pub fn numbers_of(command: Command) -> usize
     ensures few { result ≤ 2 }
 {
     match command {
+        Command::Solve | Command::SolveFormula => 1,
         Command::Compile
         | Command::FormatDomain
         | Command::FormatProblem

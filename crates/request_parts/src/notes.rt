@@ -1,18 +1,20 @@
 // The notes: what is told of a request that was not carried out.
-ghost use Rattle.std.specs.Prelude.{◌≡◌, ◌≢◌, ◌<◌, IfOk, string_bytes};
-ghost use Rattle.bddl_model.specs.Notes.{place_note, check_note, check_words, fault_words, side_name, axis_name, item_text, limit_words};
-ghost use Rattle.request_parts.specs.Ends.{content_told, refusal_told, text_name};
+ghost use Rattle.std.specs.Prelude.{◌≡◌, ◌≢◌, IfOk, string_bytes};
+ghost use Rattle.bddl_model.specs.Notes.{place_note, check_note, formula_note, line_note, check_words, fault_words, side_name, axis_name, item_text, limit_words};
+ghost use Rattle.request_parts.specs.Ends.{NotCut, content_told, refusal_told, text_name};
 ghost use Rattle.bddl_model.specs.declared.check.CheckFault.TheVariants.{NoMemory as no_fault};
 
-use crate::game_fault::GameFault;
+use crate::found_faults::{FormulaFault, GameFault};
 use crate::refusal::{Content, FileEnd, GameText, Refusal};
-use bddl_model::{Axis, CheckFault, GREATEST_SIDE, Item, LexFault, Part, Place, ReadFault, Side};
+use bddl_model::{
+    Axis, CheckFault, GREATEST_SIDE, Item, LexFault, Part, Place, QFault, ReadFault, Side,
+};
 use std::alloc::{AllocError, Global};
 
 /// The exit status that a refusal ends with.
 pub fn status_of(refusal: Refusal) -> u8
     ensures status { result ≡ (refusal_told refusal).status }
-    ensures few { result < 4 }
+    ensures not_cut { NotCut result }
 {
     match refusal {
         Refusal::NoRequest => 1,
@@ -52,6 +54,7 @@ fn content_text(alloc: Global, content: Content) -> Result<String, AllocError>
             place_text(alloc, text, place, fault_words(fault))
         }
         Content::Check(fault) => check_text(alloc, fault),
+        Content::Formula(fault) => formula_text(alloc, fault),
     }
 }
 
@@ -82,6 +85,40 @@ fn fault_words(fault: ReadFault) -> &'static str
         ReadFault::EndsEarly { .. } => "text ends early",
         ReadFault::Lex(LexFault::NoMemory) | ReadFault::NoMemory => "",
     }
+}
+
+// The line that tells a fault of a formula's text.
+fn formula_text(alloc: Global, fault: FormulaFault) -> Result<String, AllocError>
+    ensures { IfOk result (λ line. string_bytes line ≡ formula_note fault.fault) }
+{
+    match fault.fault {
+        QFault::NoProblemLine { line } => line_text(alloc, line, "no problem line"),
+        QFault::BadWord { line } => line_text(alloc, line, "bad word"),
+        QFault::OutOfRange { line, literal } => {
+            let words = format!(in alloc; "literal {literal} is out of range")?;
+            line_text(alloc, line, &words)
+        }
+        QFault::BoundTwice { line, var } => {
+            let words = format!(in alloc; "variable {var} is bound twice")?;
+            line_text(alloc, line, &words)
+        }
+        QFault::AfterMatrix { line } => line_text(alloc, line, "quantifier after a clause"),
+        QFault::EndsEarly { line } => line_text(alloc, line, "text ends early"),
+        QFault::TooManyVariables { line, said } => {
+            let words = format!(in alloc; "{said} variables are over 16777215")?;
+            line_text(alloc, line, &words)
+        }
+        QFault::CountDiffers { said, found } => {
+            format!(in alloc; "qdimacs: count differs: said {said}, found {found}\n")
+        }
+        QFault::NoMemory => unreachable!(),
+    }
+}
+
+fn line_text(alloc: Global, line: u32, words: &str) -> Result<String, AllocError>
+    ensures { IfOk result (λ text. string_bytes text ≡ line_note line words.now) }
+{
+    format!(in alloc; "qdimacs:{line}: {words}\n")
 }
 
 // The line that tells a fault of a game.

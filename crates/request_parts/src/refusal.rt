@@ -1,28 +1,38 @@
 // How a request ends.
-ghost use Rattle.std.specs.Prelude.{◌≡◌, ◌<◌, IfOk, string_bytes};
-ghost use Rattle.request_parts.specs.Ends.{close_note, close_status};
-ghost use Rattle.request_parts.specs.Stops.{IsStopOf, stop_of_content, stop_of_sink};
+ghost use Rattle.std.specs.Prelude.{◌≡◌, IfOk, string_bytes};
+ghost use Rattle.request_parts.specs.Ends.{NotCut, close_note, close_status};
+ghost use Rattle.request_parts.specs.Stops.{IsFormulaStopOf, IsStopOf, stop_of_content, stop_of_sink};
 ghost use Rattle.request_parts.specs.declared.refusal.Stop.TheVariants.{NoMemory as out_of_memory};
 
-use crate::game_fault::GameFault;
-use bddl_model::{CheckFault, NoMemory, Place, ReadFault};
+use crate::found_faults::{FormulaFault, GameFault};
+use bddl_model::{CheckFault, NoMemory, Place, QFault, ReadFault};
 use io_edge::SinkEnd;
 use std::alloc::{AllocError, AllocFailed, Global};
 
 /// How a request ended that was carried out.
 #[derive(Clone, Copy)]
 pub enum Close {
+    /// The text was written.
     Done,
+    /// Black wins, or the formula is true.
+    Yes,
+    /// Black doesn't win, or the formula is false.
+    No,
+    /// The steps are spent.
+    Spent,
 }
 
 impl Close {
     /// The exit status.
     pub fn status(self) -> u8
         ensures status { result ≡ close_status self }
-        ensures few { result < 4 }
+        ensures not_cut { NotCut result }
     {
         match self {
             Close::Done => 0,
+            Close::Yes => 10,
+            Close::No => 20,
+            Close::Spent => 30,
         }
     }
 
@@ -31,7 +41,7 @@ impl Close {
         ensures { IfOk result (λ line. string_bytes line ≡ close_note self) }
     {
         match self {
-            Close::Done => Ok(String::new(alloc)),
+            Close::Done | Close::Yes | Close::No | Close::Spent => Ok(String::new(alloc)),
         }
     }
 }
@@ -53,6 +63,7 @@ pub enum Content {
         fault: ReadFault,
     },
     Check(GameFault),
+    Formula(FormulaFault),
 }
 
 /// What is wrong with a file, whatever stands in it.
@@ -122,6 +133,17 @@ impl From<CheckFault> for Stop<Content> {
         match fault {
             CheckFault::NoMemory => Stop::NoMemory,
             found => Stop::Refused(Content::Check(GameFault { fault: found })),
+        }
+    }
+}
+
+impl From<QFault> for Stop<Content> {
+    ghost from_gives = { λ fault stop. IsFormulaStopOf fault stop };
+
+    fn from(fault: QFault) -> Self {
+        match fault {
+            QFault::NoMemory => Stop::NoMemory,
+            found => Stop::Refused(Content::Formula(FormulaFault { fault: found })),
         }
     }
 }

@@ -1,7 +1,7 @@
 use Rattle.std.proofs.Common.{map}
-use Rattle.bddl_model.specs.declared.command.Command.TheVariants.{Compile, FormatDomain, FormatProblem}
+use Rattle.bddl_model.specs.declared.command.Command.TheVariants.{Compile, Solve, SolveFormula, FormatDomain, FormatProblem}
 use Rattle.bddl_model.specs.Request.{limits_of}
-use Rattle.bddl_requests.proofs.Answered.{one_file, two_files, written_by}
+use Rattle.bddl_requests.proofs.Answered.{one_file, two_files, written_by, written_by_number}
 use Rattle.request_parts.proofs.Files.{within_length}
 use Rattle.bddl_requests.proofs.program.answer.Goals as goal
 
@@ -22,3 +22,15 @@ returns-in-FormatProblem-clause-written g c =
     let one = rw c.in-FormatProblem.is at (within_length (limits_of c.args.request.now.command) (map (λ w. w.items) c.args.contents.now) c.requires.within) in
     let files = one_file (λ w. w.items) c.args.contents.now c.index-contents-0-in-FormatProblem.result c.deref-in-FormatProblem.result.now one c.index-contents-0-in-FormatProblem.is c.deref-in-FormatProblem.ensures.value in
     written_by FormatProblem _ _ _ _ _ _ _ c.in-FormatProblem.is files (rw c.in-FormatProblem.is at c.requires.numbers) c.format_problem.ensures.written
+
+pub returns-in-Solve-clause-written : goal.returns-in-Solve-clause-written
+returns-in-Solve-clause-written g c =
+    let two = rw c.in-Solve.is at (within_length (limits_of c.args.request.now.command) (map (λ w. w.items) c.args.contents.now) c.requires.within) in
+    let files = two_files (λ w. w.items) c.args.contents.now c.index-contents-0-in-Solve.result c.index-contents-1-in-Solve.result c.deref-in-Solve.result.now c.deref-in-Solve-2.result.now two c.index-contents-0-in-Solve.is c.index-contents-1-in-Solve.is c.deref-in-Solve.ensures.value c.deref-in-Solve-2.ensures.value in
+    written_by_number Solve _ _ _ _ _ _ _ c.in-Solve.is files c.index.result.now (rw c.in-Solve.is at c.requires.numbers) c.index.ensures c.solve.ensures.written
+
+pub returns-in-SolveFormula-clause-written : goal.returns-in-SolveFormula-clause-written
+returns-in-SolveFormula-clause-written g c =
+    let one = rw c.in-SolveFormula.is at (within_length (limits_of c.args.request.now.command) (map (λ w. w.items) c.args.contents.now) c.requires.within) in
+    let files = one_file (λ w. w.items) c.args.contents.now c.index-contents-0-in-SolveFormula.result c.deref-in-SolveFormula.result.now one c.index-contents-0-in-SolveFormula.is c.deref-in-SolveFormula.ensures.value in
+    written_by_number SolveFormula _ _ _ _ _ _ _ c.in-SolveFormula.is files c.index-in-SolveFormula.result.now (rw c.in-SolveFormula.is at c.requires.numbers) c.index-in-SolveFormula.ensures c.solve_formula.ensures.written

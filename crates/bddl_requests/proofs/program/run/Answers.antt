@@ -10,30 +10,30 @@ use Rattle.bddl_requests.proofs.program.run.Goals as goal
 pub returns-in-Ok-clause-ends : goal.returns-in-Ok-clause-ends
 returns-in-Ok-clause-ends g c =
     let written = c.in-Ok.ensures.written true (λ e. absurd cc) in
-    told_answers _ (closed c.in-Ok.close written.0) _ _ _ _ _ written.1 written.2 (rw c.status.ensures.status at c.status.ensures.few) (c.tell.ensures.told (closed c.in-Ok.close written.0) c.status.ensures.status c.note.ensures)
+    told_answers _ (closed c.in-Ok.close written.0) _ _ _ _ _ written.1 written.2 (rw c.status.ensures.status at c.status.ensures.not_cut) (c.tell.ensures.told (closed c.in-Ok.close written.0) c.status.ensures.status c.note.ensures)
 
 pub returns-in-Ok-clause-calm : goal.returns-in-Ok-clause-calm
 returns-in-Ok-clause-calm g c calm =
     let written = c.in-Ok.ensures.written false (λ e. calm) in
-    told_answers _ (closed c.in-Ok.close written.0) _ _ _ _ _ written.1 written.2 (rw c.status.ensures.status at c.status.ensures.few) (c.tell.ensures.told (closed c.in-Ok.close written.0) c.status.ensures.status c.note.ensures)
+    told_answers _ (closed c.in-Ok.close written.0) _ _ _ _ _ written.1 written.2 (rw c.status.ensures.status at c.status.ensures.not_cut) (c.tell.ensures.told (closed c.in-Ok.close written.0) c.status.ensures.status c.note.ensures)
 
 pub returns-in-Ok-clause-carried_out : goal.returns-in-Ok-clause-carried_out
-returns-in-Ok-clause-carried_out g c zero =
+returns-in-Ok-clause-carried_out g c carried =
     let written = c.in-Ok.ensures.written true (λ e. absurd cc) in
-    carried_out (g.S.Shelf.held c.args.shelf.now) _ c.in-Ok.close _ _ _ _ _ written (c.tell.ensures.told (closed c.in-Ok.close written.0) c.status.ensures.status c.note.ensures) zero
+    carried_out (g.S.Shelf.held c.args.shelf.now) _ c.in-Ok.close _ _ _ _ _ written (c.tell.ensures.told (closed c.in-Ok.close written.0) c.status.ensures.status c.note.ensures) carried
 
 pub returns-in-Ok-clause-words : goal.returns-in-Ok-clause-words
 returns-in-Ok-clause-words g c one =
-    close_is_no_refusal c.in-Ok.close [] _ _ _ 1 (omega arith) (omega arith) (c.tell.ensures.told (closed c.in-Ok.close []) c.status.ensures.status c.note.ensures) one
+    close_is_no_refusal c.in-Ok.close [] _ _ _ 1 (omega arith) refl (c.tell.ensures.told (closed c.in-Ok.close []) c.status.ensures.status c.note.ensures) one
 
 pub returns-in-Ok-clause-refused : goal.returns-in-Ok-clause-refused
-returns-in-Ok-clause-refused g c (inl one) = close_is_no_refusal c.in-Ok.close [] _ _ _ 1 (omega arith) (omega arith) (c.tell.ensures.told (closed c.in-Ok.close []) c.status.ensures.status c.note.ensures) one
-returns-in-Ok-clause-refused g c (inr (inl two)) = close_is_no_refusal c.in-Ok.close [] _ _ _ 2 (omega arith) (omega arith) (c.tell.ensures.told (closed c.in-Ok.close []) c.status.ensures.status c.note.ensures) two
-returns-in-Ok-clause-refused g c (inr (inr three)) = close_is_no_refusal c.in-Ok.close [] _ _ _ 3 (omega arith) (omega arith) (c.tell.ensures.told (closed c.in-Ok.close []) c.status.ensures.status c.note.ensures) three
+returns-in-Ok-clause-refused g c (inl one) = close_is_no_refusal c.in-Ok.close [] _ _ _ 1 (omega arith) refl (c.tell.ensures.told (closed c.in-Ok.close []) c.status.ensures.status c.note.ensures) one
+returns-in-Ok-clause-refused g c (inr (inl two)) = close_is_no_refusal c.in-Ok.close [] _ _ _ 2 (omega arith) refl (c.tell.ensures.told (closed c.in-Ok.close []) c.status.ensures.status c.note.ensures) two
+returns-in-Ok-clause-refused g c (inr (inr three)) = close_is_no_refusal c.in-Ok.close [] _ _ _ 3 (omega arith) refl (c.tell.ensures.told (closed c.in-Ok.close []) c.status.ensures.status c.note.ensures) three
 
 pub returns-in-Ok-clause-read_fault : goal.returns-in-Ok-clause-read_fault
 returns-in-Ok-clause-read_fault g c three =
-    close_is_no_refusal c.in-Ok.close [] _ _ _ 3 (omega arith) (omega arith) (c.tell.ensures.told (closed c.in-Ok.close []) c.status.ensures.status c.note.ensures) three
+    close_is_no_refusal c.in-Ok.close [] _ _ _ 3 (omega arith) refl (c.tell.ensures.told (closed c.in-Ok.close []) c.status.ensures.status c.note.ensures) three
 
 -- ---- refused
 
@@ -41,17 +41,17 @@ pub returns-in-Err-Refused-clause-ends : goal.returns-in-Err-Refused-clause-ends
 returns-in-Err-Refused-clause-ends g c =
     let written = rw c.in-Err-Refused.field-0-is at (c.in-Err-Refused.ensures.written true (λ e. absurd cc)) in
     let told = c.tell-in-Err-Refused.ensures.told (refusal_told c.in-Err-Refused.refusal) c.status_of.ensures.status c.note_of.ensures in
-    told_answers _ (refusal_told c.in-Err-Refused.refusal) _ _ _ _ _ written.1 (nothing_is_written c.in-Err-Refused.refusal _ _ written.0) (rw c.status_of.ensures.status at c.status_of.ensures.few) told
+    told_answers _ (refusal_told c.in-Err-Refused.refusal) _ _ _ _ _ written.1 (nothing_is_written c.in-Err-Refused.refusal _ _ written.0) (rw c.status_of.ensures.status at c.status_of.ensures.not_cut) told
 
 pub returns-in-Err-Refused-clause-calm : goal.returns-in-Err-Refused-clause-calm
 returns-in-Err-Refused-clause-calm g c calm =
     let written = rw c.in-Err-Refused.field-0-is at (c.in-Err-Refused.ensures.written false (λ e. calm)) in
     let told = c.tell-in-Err-Refused.ensures.told (refusal_told c.in-Err-Refused.refusal) c.status_of.ensures.status c.note_of.ensures in
-    told_answers _ (refusal_told c.in-Err-Refused.refusal) _ _ _ _ _ written.1 (nothing_is_written c.in-Err-Refused.refusal _ _ written.0) (rw c.status_of.ensures.status at c.status_of.ensures.few) told
+    told_answers _ (refusal_told c.in-Err-Refused.refusal) _ _ _ _ _ written.1 (nothing_is_written c.in-Err-Refused.refusal _ _ written.0) (rw c.status_of.ensures.status at c.status_of.ensures.not_cut) told
 
 pub returns-in-Err-Refused-clause-carried_out : goal.returns-in-Err-Refused-clause-carried_out
-returns-in-Err-Refused-clause-carried_out g c zero =
-    refusal_is_no_result c.in-Err-Refused.refusal _ _ _ (c.tell-in-Err-Refused.ensures.told (refusal_told c.in-Err-Refused.refusal) c.status_of.ensures.status c.note_of.ensures) zero
+returns-in-Err-Refused-clause-carried_out g c carried =
+    refusal_is_no_result c.in-Err-Refused.refusal _ _ _ (c.tell-in-Err-Refused.ensures.told (refusal_told c.in-Err-Refused.refusal) c.status_of.ensures.status c.note_of.ensures) carried
 
 pub returns-in-Err-Refused-clause-words : goal.returns-in-Err-Refused-clause-words
 returns-in-Err-Refused-clause-words g c one =

@@ -1,4 +1,4 @@
-use Rattle.std.proofs.Common.{◌≡◌, List, ◌++◌, [], ◌∷◌, sym, ap, ap₂, ◌∙◌}
+use Rattle.std.proofs.Common.{List, ◌++◌, [], ◌∷◌, ap, ap₂, ◌∙◌}
 use Rattle.bddl_model.specs.declared.formula.Lit.{Lit}
 use Rattle.qbf_form.proofs.Stored.{ends_kept, cut_kept}
 use Rattle.qbf_form.proofs.clauses.Clauses.add.Goals as goal

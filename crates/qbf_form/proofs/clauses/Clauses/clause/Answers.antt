@@ -1,4 +1,4 @@
-use Rattle.std.proofs.Common.{◌<◌, List, [], get_or, length, ap, subst, sym, ◌∙◌, arith}
+use Rattle.std.proofs.Common.{List, length, ap, arith}
 use Rattle.bddl_model.specs.declared.formula.Lit.{Lit}
 use Rattle.qbf_form.proofs.Stored.{length_cut}
 use Rattle.qbf_form.proofs.clauses.Clauses.clause.Goals as goal

@@ -1,4 +1,4 @@
-use Rattle.std.proofs.Common.{◌<◌, List, [], get_or, length, sym, subst}
+use Rattle.std.proofs.Common.{◌<◌, List, length, sym, subst}
 use Rattle.bddl_model.specs.declared.formula.Lit.{Lit}
 use Rattle.bddl_model.specs.Truth.{Formula}
 use Rattle.bddl_model.specs.Forms.{FitsPrefix}

@@ -1,0 +1,4 @@
+pub mod Standing
+pub mod Paid
+pub mod TailRows
+pub mod FirstValues

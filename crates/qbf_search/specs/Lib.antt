@@ -1,0 +1,4 @@
+pub mod Values
+pub mod Tails
+pub mod Standing
+pub mod Answers

@@ -1,0 +1,7 @@
+mod Ids
+mod RowNumbers
+mod Entering
+mod RowWrites
+mod Changes
+mod Originals
+mod Listed
