@@ -9,7 +9,7 @@ use Rattle.bddl_model.specs.Size.{inputs_of, gate_limit, is_small}
 use Rattle.bddl_model.specs.Tail.{tail_length}
 use Rattle.bddl_model.specs.Bounds.{steps_bound, bound, before_tail, game_bound}
 
-steps_bound-monotone : (v w d e : ℕ) → v ≤ w → d ≤ e → steps_bound v d ≤ steps_bound w e
+pub steps_bound-monotone : (v w d e : ℕ) → v ≤ w → d ≤ e → steps_bound v d ≤ steps_bound w e
 unfolding steps_bound
 steps_bound-monotone v w d e few low =
     let power : 2 ^ (d + 1) ≤ 2 ^ (e + 1) = pow-le-pow_right {n = 2} (omega arith) (omega arith) in

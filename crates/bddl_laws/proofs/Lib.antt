@@ -38,4 +38,11 @@ pub mod FollowingClauses
 pub mod FollowingValues
 pub mod GreatestSizes
 pub mod GreatestInputs
+pub mod CertifyBounds
 mod WorkedTails
+pub mod PreorderLinks
+pub mod Named
+pub mod PlacedNodes
+pub mod CertificateWins
+pub mod CertificateTexts
+pub mod BreadthFirst

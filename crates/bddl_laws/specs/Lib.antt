@@ -1,2 +1,5 @@
 pub mod WorkedGames
 pub mod FollowingValues
+pub mod PlacedNodes
+pub mod PlaceCosts
+pub mod BreadthFirst

@@ -2,7 +2,11 @@
 ghost use Rattle.std.specs.Prelude.{◌≡◌, ◌⊎◌, ℕ, ◌+◌, ◌*◌, ◌^◌, ◌≤◌, ◌<◌, List, ◌∷◌, [], ◌++◌, true, false, length};
 ghost use Rattle.bddl_model.specs.declared.formula.Bound.{Bound};
 ghost use Rattle.bddl_model.specs.declared.circuit.Wire.{Wire};
+ghost use Rattle.bddl_model.specs.declared.game.Side.TheVariants.{Black, White};
 ghost use Rattle.bddl_model.specs.Truth.{Formula};
+ghost use Rattle.bddl_model.specs.Board.{Board};
+ghost use Rattle.bddl_model.specs.Certificate.{Place};
+ghost use Rattle.bddl_model.specs.Moves.{moves};
 ghost use Rattle.bddl_model.specs.Forms.{has_number, prefix_variables};
 ghost use Rattle.bddl_model.specs.Circuit.{Circuit, IsCircuit, circuit_clauses};
 ghost use Rattle.bddl_model.specs.CircuitValues.{gate_bounds};
@@ -10,8 +14,9 @@ ghost use Rattle.bddl_model.specs.Setup.{Setup};
 ghost use Rattle.bddl_model.specs.Limits.{IsGame};
 ghost use Rattle.bddl_model.specs.Size.{inputs_of, units_of, gate_limit, is_small};
 ghost use Rattle.bddl_model.specs.Tail.{is_tail, tail_length};
-ghost use Rattle.bddl_model.specs.Bounds.{bound, before_tail, game_bound, certify_bound};
+ghost use Rattle.bddl_model.specs.Bounds.{bound, before_tail, game_bound, certify_bound, filled, most_replies};
 ghost use Rattle.bddl_model.specs.TrailDigits.{Digits, digits_number, steps_paid};
+ghost use Rattle.bddl_laws.specs.PlaceCosts.{MayBeMet, begun_at, cost_at};
 ghost use Rattle.bddl_laws.specs.WorkedGames.{two_by_two, five_in_a_row, six_stones, twelve_stones, white_first, greatest_setup};
 
 /// A law: these games have these numbers.
@@ -102,4 +107,13 @@ pub fn circuit_tail_holds_the_gates()
         → length prefix ≡ inputs_of s → length (gate_bounds c) ≤ gate_limit s
         → ((v : ℕ) → 1 ≤ v → v ≤ c.inputs → has_number (prefix_variables prefix) v ≡ true)
         → bound (record { prefix = prefix ++ gate_bounds c; clauses = circuit_clauses c out }) ≤ game_bound s }
+{}
+
+/// A law: each search for a certificate takes at most as many steps as one over a full board, White has
+/// no more replies than are counted, and so the steps of all places are within the certificate's bound.
+pub fn certificate_steps_are_bounded()
+    ensures searches { (s : Setup) (p : Place) → MayBeMet s p → game_bound (begun_at s p) ≤ game_bound (filled s) }
+    ensures replies { (s : Setup) (board : Board) → length (moves s.game board White) ≤ most_replies s }
+    ensures black { (s : Setup) → cost_at s Black s.depth ≤ certify_bound s }
+    ensures white { (s : Setup) → game_bound (filled s) + cost_at s White s.depth ≤ certify_bound s }
 {}

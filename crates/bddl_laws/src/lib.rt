@@ -6,11 +6,13 @@
 //! `bddl_model/specs/Fine.antt`. `exactness` says why the encoding says of every position what can be
 //! forced from there; begin with `bddl_model/specs/Conditions.antt`. `circuits` says what the clauses of
 //! a circuit mean, `following` which values a tail's variables have, `texts` that a form is read from its
-//! text and that each text has one reading, and `bounds` how large a form gets and how many steps a search
+//! text and that each text has one reading, `certificates` what a valid certificate gives and how one is
+//! made, and `bounds` how large a form gets and how many steps a search
 //! over it takes.
 #![tactic(auto)]
 
 mod bounds;
+mod certificates;
 mod circuits;
 mod constraints;
 mod exactness;
@@ -18,9 +20,13 @@ mod following;
 mod texts;
 
 pub use bounds::{
-    circuit_tail_holds_the_gates, flip_keeps_steps_within, form_bound_is_at_most_game_bound,
-    paid_steps_are_below_the_bound, push_keeps_steps_within, sizes_have_limits,
-    tail_is_the_longest, worked_bounds,
+    certificate_steps_are_bounded, circuit_tail_holds_the_gates, flip_keeps_steps_within,
+    form_bound_is_at_most_game_bound, paid_steps_are_below_the_bound, push_keeps_steps_within,
+    sizes_have_limits, tail_is_the_longest, worked_bounds,
+};
+pub use certificates::{
+    nodes_may_be_made_breadth_first, placed_nodes_are_valid, trees_are_linked,
+    valid_certificates_have_a_text, valid_certificates_win,
 };
 pub use circuits::{circuit_clauses_hold, growth_keeps_words, shared_gates_are_apart};
 pub use constraints::{

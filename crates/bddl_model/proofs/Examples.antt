@@ -92,19 +92,19 @@ near m x y = is (shifted m (pos x) (pos y))
 abbrev fixed : Mark → ℕ → ℕ → Test
 fixed m x y = is (record { mark = m; x = Abs x; y = Abs y })
 
-abbrev occupy : Mark → Action
+abbrev pub occupy : Mark → Action
 occupy m = record { name = codes "occupy"; before = is (here marks.Free) ∷ []; effects = here m ∷ [] }
 
-abbrev occupying : ℕ → ℕ → List (List Test) → List (List Test) → Game
+abbrev pub occupying : ℕ → ℕ → List (List Test) → List (List Test) → Game
 occupying w h black white = record { width = w; height = h; black_actions = occupy marks.Black ∷ []; white_actions = occupy marks.White ∷ []; black_lines = black; white_lines = white }
 
 abbrev without_actions : ℕ → ℕ → List (List Test) → List (List Test) → Game
 without_actions w h black white = record { width = w; height = h; black_actions = []; white_actions = []; black_lines = black; white_lines = white }
 
-abbrev across : List Test
+abbrev pub across : List Test
 across = near marks.Black 0 0 ∷ near marks.Black 1 0 ∷ []
 
-abbrev down : List Test
+abbrev pub down : List Test
 down = near marks.Black 0 0 ∷ near marks.Black 0 1 ∷ []
 
 a_black_stone_stands : win (without_actions 1 1 ((fixed marks.Black 1 1 ∷ []) ∷ []) []) Black (marks.Black ∷ []) 0 ≡ true

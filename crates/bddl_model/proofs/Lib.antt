@@ -1,4 +1,7 @@
 mod Examples
+mod CertificateExamples
+pub mod PlaceTests
+pub mod FirstNamings
 mod ReadingExamples
 pub mod Bits
 pub mod Truth

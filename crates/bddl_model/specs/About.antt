@@ -6,6 +6,11 @@ help_text =
     codes "bddl compile DOMAIN PROBLEM   writes the formula of a game\n"
     ++ (codes "bddl solve DOMAIN PROBLEM N   decides a game, in at most N steps\n"
     ++ (codes "bddl qsolve FORMULA N         decides a formula, in at most N steps\n"
+    ++ (codes "bddl certify DOMAIN PROBLEM N writes a strategy of Black, found in at most N steps\n"
+    ++ (codes "bddl check DOMAIN PROBLEM CERTIFICATE\n"
+    ++ (codes "                              tells whether a strategy wins\n"
+    ++ (codes "bddl recert DOMAIN PROBLEM CERTIFICATE\n"
+    ++ (codes "                              writes it with one node for each place\n"
     ++ (codes "bddl fmt-domain DOMAIN        writes the canonical text of a domain\n"
     ++ (codes "bddl fmt-problem PROBLEM      writes the canonical text of a problem\n"
     ++ (codes "bddl help, bddl --help        writes this text\n"
@@ -17,9 +22,10 @@ help_text =
     ++ (codes "3   a file could not be read\n"
     ++ (codes "4   a write failed\n"
     ++ (codes "5   memory ran out\n"
+    ++ (codes "6   a certificate is refused\n"
     ++ (codes "10  the game is won, or the formula is true\n"
     ++ (codes "20  the game is not won, or the formula is false\n"
-    ++ codes "30  the steps are spent\n")))))))))))))))
+    ++ codes "30  the steps are spent\n")))))))))))))))))))))
 
 abbrev pub version_text : List ℕ
 version_text = codes "bddl, rattle-kit-13f logic dac8208d650f15bf\n"

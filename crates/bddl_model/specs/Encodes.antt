@@ -1,5 +1,5 @@
 -- What a form keeps to that is compiled from a setup.
-use Rattle.std.specs.Prelude.{ℕ, ◌≡◌, ◌+◌, ◌<◌, ◌≤◌, true, length}
+use Rattle.std.specs.Prelude.{◌≡◌, ◌+◌, ◌<◌, ◌≤◌, true, length}
 use Rattle.bddl_model.specs.Truth.{Formula, form_value}
 use Rattle.bddl_model.specs.Forms.{IsForm}
 use Rattle.bddl_model.specs.Exact.{IsExactForm}

@@ -26,6 +26,10 @@ pub mod Moves
 pub mod Goal
 pub mod Win
 pub mod Setup
+pub mod CertificateGraph
+pub mod Certificate
+pub mod CertificateText
+pub mod CertificateFaults
 pub mod Check
 pub mod Bits
 pub mod Layout

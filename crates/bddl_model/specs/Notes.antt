@@ -8,6 +8,10 @@ use Rattle.bddl_model.specs.declared.fault.ReadFault.{ReadFault}
 use Rattle.bddl_model.specs.declared.fault.ReadFault.TheVariants as fault
 use Rattle.bddl_model.specs.declared.fault.QFault.{QFault}
 use Rattle.bddl_model.specs.declared.fault.QFault.TheVariants as formula
+use Rattle.bddl_model.specs.declared.certificate.CertReadFault.{CertReadFault}
+use Rattle.bddl_model.specs.declared.certificate.CertReadFault.TheVariants as cert_text
+use Rattle.bddl_model.specs.declared.certificate.CertFault.{CertFault}
+use Rattle.bddl_model.specs.declared.certificate.CertFault.TheVariants as cert
 use Rattle.bddl_model.specs.declared.game.Side.{Side}
 use Rattle.bddl_model.specs.declared.game.Side.TheVariants.{Black, White}
 use Rattle.bddl_model.specs.declared.check.Item.{Item}
@@ -83,6 +87,34 @@ formula_note (formula.EndsEarly line) = line_note line (codes "text ends early")
 formula_note (formula.TooManyVariables line said) = line_note line (decimal said ++ codes " variables are over 16777215")
 formula_note (formula.CountDiffers said found) = codes "qdimacs: count differs: said " ++ (decimal said ++ (codes ", found " ++ (decimal found ++ codes "\n")))
 formula_note formula.NoMemory = []
+
+-- ---- certificates that have a fault
+
+abbrev pub node_note : ℕ → List ℕ → List ℕ
+node_note node words = codes "certificate: node " ++ (decimal node ++ (codes ": " ++ (words ++ codes "\n")))
+
+-- of its text; want of memory is no fault of a text
+abbrev pub cert_text_note : CertReadFault → List ℕ
+cert_text_note cert_text.NotHeader = codes "certificate: bad header\n"
+cert_text_note (cert_text.NotALine node) = node_note node (codes "bad line")
+cert_text_note (cert_text.EndsEarly node) = node_note node (codes "text ends early")
+cert_text_note (cert_text.BadNext node) = node_note node (codes "next node is not later")
+cert_text_note (cert_text.Unused node) = node_note node (codes "not used")
+cert_text_note (cert_text.NotReached node) = node_note node (codes "not reached")
+cert_text_note (cert_text.CountDiffers said found) = codes "certificate: count differs: said " ++ (decimal said ++ (codes ", found " ++ (decimal found ++ codes "\n")))
+cert_text_note cert_text.NoMemory = []
+
+-- of one of its nodes; want of memory is no fault of a certificate
+abbrev pub cert_note : CertFault → List ℕ
+cert_note (cert.TwoPlaces node) = node_note node (codes "two places")
+cert_note (cert.WrongSide node) = node_note node (codes "wrong side")
+cert_note (cert.WhiteGoalStands node) = node_note node (codes "white goal stands")
+cert_note (cert.PliesSpent node) = node_note node (codes "plies spent")
+cert_note (cert.IllegalMove node) = node_note node (codes "illegal move")
+cert_note (cert.GoalDoesNotStand node) = node_note node (codes "goal does not stand")
+cert_note (cert.Stuck node) = node_note node (codes "white is stuck")
+cert_note (cert.RepliesDiffer node place) = node_note node (codes "replies differ at " ++ decimal place)
+cert_note cert.NoMemory = []
 
 -- ---- games that have a fault
 

@@ -6,10 +6,13 @@ use Rattle.bddl_model.specs.declared.texts.ProblemText.{ProblemText}
 use Rattle.bddl_model.specs.declared.fault.ReadFault.{ReadFault}
 use Rattle.bddl_model.specs.declared.check.CheckFault.{CheckFault}
 use Rattle.bddl_model.specs.declared.fault.QFault.{QFault}
+use Rattle.bddl_model.specs.declared.certificate.Node.{Node}
+use Rattle.bddl_model.specs.declared.certificate.CertReadFault.{CertReadFault}
+use Rattle.bddl_model.specs.declared.certificate.CertFault.{CertFault}
 use Rattle.bddl_model.specs.declared.formula.Quant.TheVariants as quant
 use Rattle.bddl_model.specs.declared.formula.Verdict.TheVariants as verdict
 use Rattle.bddl_model.specs.declared.command.Command.{Command}
-use Rattle.bddl_model.specs.declared.command.Command.TheVariants.{Compile, Solve, SolveFormula, FormatDomain, FormatProblem, Help, Version}
+use Rattle.bddl_model.specs.declared.command.Command.TheVariants.{Compile, Solve, SolveFormula, Certify, Check, Recertify, FormatDomain, FormatProblem, Help, Version}
 use Rattle.bddl_model.specs.Files.{Files}
 use Rattle.bddl_model.specs.About.{help_text, version_text}
 use Rattle.bddl_model.specs.Notes as notes
@@ -25,8 +28,11 @@ use Rattle.bddl_model.specs.Setup.{Setup}
 use Rattle.bddl_model.specs.Check.{checked_setup}
 use Rattle.bddl_model.specs.Win.{win}
 use Rattle.bddl_model.specs.Encodes.{Encodes}
-use Rattle.bddl_model.specs.Bounds.{bound, game_bound}
-use Rattle.bddl_model.specs.Verdicts.{IsValue, win_text, no_win_text, spent_text, answer_text}
+use Rattle.bddl_model.specs.Bounds.{bound, game_bound, certify_bound}
+use Rattle.bddl_model.specs.Certificate.{cert_fault, valid, IsShared, IsSharedForm}
+use Rattle.bddl_model.specs.CertificateText.{ctext, CertText}
+use Rattle.bddl_model.specs.CertificateFaults.{CertFails}
+use Rattle.bddl_model.specs.Verdicts.{IsValue, win_text, no_win_text, spent_text, accepted_text, answer_text}
 use Rattle.bddl_model.specs.Request.{Request, limits_of, files_of}
 
 -- how a call ends that is not cut short: its status, and what it wrote
@@ -115,6 +121,45 @@ FormulaSolveEnds budget variables clauses form end =
     ⊎ (((first : List Bool) × IsValue form quant.All false first × (end ≡ told 20 (answer_text verdict.False variables clauses form.prefix first)))
     ⊎ ((budget < bound form) × (end ≡ told 30 (answer_text verdict.Spent variables clauses form.prefix []))))
 
+-- ---- certificates
+
+-- a certificate of the setup: one node a place, numbered breadth first, as its one text of version 2
+pub record Certifies (s : Setup) (text : List ℕ) : Type 0 where
+  pub nodes : List Node
+  pub shared : IsShared s nodes
+  pub written : text ≡ ctext nodes
+  pub read : CertText text nodes
+
+-- what certifying a setup in so many steps may end as; where nothing is written, the note tells why
+abbrev pub CertifyEnds : ℕ → Setup → End → Type 0
+CertifyEnds budget s end =
+    ((text : List ℕ) × Certifies s text × (end ≡ told 10 text))
+    ⊎ (((win s.game s.first s.board s.depth ≡ false) × (end ≡ refused 20 no_win_text))
+    ⊎ ((budget < certify_bound s) × (end ≡ refused 30 spent_text)))
+
+-- goes on with the nodes of a text
+abbrev pub CertThen : List ℕ → (List Node → End → Type 0) → End → Type 0
+CertThen bytes next end =
+    ((f : CertReadFault) × CertFails bytes f × (end ≡ refused 6 (notes.cert_text_note f)))
+    ⊎ ((nodes : List Node) × CertText bytes nodes × next nodes end)
+
+-- goes on where they are valid
+abbrev pub ValidThen : Setup → List Node → (End → Type 0) → End → Type 0
+ValidThen s nodes next end =
+    ((f : CertFault) × (cert_fault s nodes ≡ Some f) × (end ≡ refused 6 (notes.cert_note f)))
+    ⊎ ((valid s nodes ≡ true) × next end)
+
+abbrev pub AcceptedThen : List ℕ → (Setup → List Node → End → Type 0) → Setup → End → Type 0
+AcceptedThen c next s end = CertThen c (λ nodes. ValidThen s nodes (next s nodes)) end
+
+-- what a valid certificate shows, and what is told of it
+abbrev pub CheckEnds : Setup → List Node → End → Type 0
+CheckEnds s nodes end = (win s.game s.first s.board s.depth ≡ true) × Says accepted_text end
+
+-- the shared form of a valid certificate, as its text
+abbrev pub RecertifyEnds : Setup → List Node → End → Type 0
+RecertifyEnds s nodes end = (shared : List Node) × IsSharedForm s nodes shared × CertText (ctext shared) shared × Says (ctext shared) end
+
 -- ---- the table of ends
 
 -- what a command may end as, by the contents of its files and by its numbers
@@ -122,6 +167,9 @@ abbrev pub ContentEnds : Command → List (List ℕ) → List ℕ → End → Ty
 ContentEnds Compile (d ∷ p ∷ []) [] end = GameThen d p (CompileEnds d p) end
 ContentEnds Solve (d ∷ p ∷ []) (n ∷ []) end = GameThen d p (SolveEnds n) end
 ContentEnds SolveFormula (f ∷ []) (n ∷ []) end = FormulaThen f (FormulaSolveEnds n) end
+ContentEnds Certify (d ∷ p ∷ []) (n ∷ []) end = GameThen d p (CertifyEnds n) end
+ContentEnds Check (d ∷ p ∷ c ∷ []) [] end = GameThen d p (AcceptedThen c CheckEnds) end
+ContentEnds Recertify (d ∷ p ∷ c ∷ []) [] end = GameThen d p (AcceptedThen c RecertifyEnds) end
 ContentEnds FormatDomain (d ∷ []) [] end = DomainThen d (λ tree. Says (domain_text tree)) end
 ContentEnds FormatProblem (p ∷ []) [] end = ProblemThen p (λ tree. Says (problem_text tree)) end
 ContentEnds Help [] [] end = Says help_text end
@@ -132,11 +180,22 @@ ContentEnds _ _ _ end = ⊥
 abbrev pub is_carried_out : ℕ → Bool
 is_carried_out status = status == 0 || (status == 10 || (status == 20 || status == 30))
 
+-- the texts state a game and a certificate that is valid for it
+pub record Accepts (d p c : List ℕ) (s : Setup) (nodes : List Node) : Type 0 where
+  pub dom : DomainText
+  pub prob : ProblemText
+  pub states : States d p dom prob (Ok s)
+  pub read : CertText c nodes
+  pub valid : valid s nodes ≡ true
+
 -- what a command that is carried out ends as
 abbrev pub Results : Command → List (List ℕ) → List ℕ → End → Type 0
 Results Compile (d ∷ p ∷ []) [] end = (s : Setup) × CompileEnds d p s end
 Results Solve (d ∷ p ∷ []) (n ∷ []) end = (dom : DomainText) × (prob : ProblemText) × (s : Setup) × States d p dom prob (Ok s) × SolveEnds n s end
 Results SolveFormula (f ∷ []) (n ∷ []) end = (variables clauses : ℕ) × (form : Formula) × Qdimacs f variables clauses form × FormulaSolveEnds n variables clauses form end
+Results Certify (d ∷ p ∷ []) (n ∷ []) end = (dom : DomainText) × (prob : ProblemText) × (s : Setup) × States d p dom prob (Ok s) × CertifyEnds n s end
+Results Check (d ∷ p ∷ c ∷ []) [] end = (s : Setup) × (nodes : List Node) × Accepts d p c s nodes × CheckEnds s nodes end
+Results Recertify (d ∷ p ∷ c ∷ []) [] end = (s : Setup) × (nodes : List Node) × Accepts d p c s nodes × RecertifyEnds s nodes end
 Results FormatDomain (d ∷ []) [] end = (tree : DomainText) × Reads domain d tree × Says (domain_text tree) end
 Results FormatProblem (p ∷ []) [] end = (tree : ProblemText) × Reads problem p tree × Says (problem_text tree) end
 Results Help [] [] end = Says help_text end

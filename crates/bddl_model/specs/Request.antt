@@ -4,7 +4,7 @@ use Rattle.std.specs.Fmt.{decimal}
 use Rattle.std.specs.List.{list_any}
 use Rattle.bddl_model.specs.Bytes.{digits_from}
 use Rattle.bddl_model.specs.declared.command.Command.{Command}
-use Rattle.bddl_model.specs.declared.command.Command.TheVariants.{Compile, Solve, SolveFormula, FormatDomain, FormatProblem, Help, Version}
+use Rattle.bddl_model.specs.declared.command.Command.TheVariants.{Compile, Solve, SolveFormula, Certify, Check, Recertify, FormatDomain, FormatProblem, Help, Version}
 
 -- ---- the table of commands
 
@@ -13,6 +13,9 @@ abbrev pub names_of : Command → List (List ℕ)
 names_of Compile = codes "compile" ∷ []
 names_of Solve = codes "solve" ∷ []
 names_of SolveFormula = codes "qsolve" ∷ []
+names_of Certify = codes "certify" ∷ []
+names_of Check = codes "check" ∷ []
+names_of Recertify = codes "recert" ∷ []
 names_of FormatDomain = codes "fmt-domain" ∷ []
 names_of FormatProblem = codes "fmt-problem" ∷ []
 names_of Help = codes "help" ∷ codes "--help" ∷ []
@@ -26,11 +29,18 @@ game_limit = Some 1048576
 abbrev pub formula_limit : Option ℕ
 formula_limit = Some 67108864
 
+-- a certificate may be as long as memory allows
+abbrev pub certificate_limit : Option ℕ
+certificate_limit = None
+
 -- the files that it takes, by the most bytes that each may have, if there is such a number
 abbrev pub limits_of : Command → List (Option ℕ)
 limits_of Compile = game_limit ∷ game_limit ∷ []
 limits_of Solve = game_limit ∷ game_limit ∷ []
 limits_of SolveFormula = formula_limit ∷ []
+limits_of Certify = game_limit ∷ game_limit ∷ []
+limits_of Check = game_limit ∷ game_limit ∷ certificate_limit ∷ []
+limits_of Recertify = game_limit ∷ game_limit ∷ certificate_limit ∷ []
 limits_of FormatDomain = game_limit ∷ []
 limits_of FormatProblem = game_limit ∷ []
 limits_of Help = []
@@ -41,13 +51,16 @@ abbrev pub numbers_of : Command → ℕ
 numbers_of Compile = 0
 numbers_of Solve = 1
 numbers_of SolveFormula = 1
+numbers_of Certify = 1
+numbers_of Check = 0
+numbers_of Recertify = 0
 numbers_of FormatDomain = 0
 numbers_of FormatProblem = 0
 numbers_of Help = 0
 numbers_of Version = 0
 
 abbrev pub commands : List Command
-commands = Compile ∷ Solve ∷ SolveFormula ∷ FormatDomain ∷ FormatProblem ∷ Help ∷ Version ∷ []
+commands = Compile ∷ Solve ∷ SolveFormula ∷ Certify ∷ Check ∷ Recertify ∷ FormatDomain ∷ FormatProblem ∷ Help ∷ Version ∷ []
 
 abbrev pub is_named : List ℕ → Command → Bool
 is_named word c = list_any (bytes_eq word) (names_of c)

@@ -19,6 +19,9 @@ no_win_text = codes "no win\n"
 abbrev pub spent_text : List ℕ
 spent_text = codes "spent\n"
 
+abbrev pub accepted_text : List ℕ
+accepted_text = codes "accepted\n"
+
 -- ---- of a formula
 
 -- the form has this value; each variable of its first block has a value, if the block is of this quantifier; and under these values the rest has the form's

@@ -6,7 +6,7 @@ use crate::Span;
 /// The most columns and the most rows of a board.
 pub const GREATEST_SIDE: u32 = 64;
 
-#[derive(Clone, Copy, Debug, PartialEq, Eq)]
+#[derive(Clone, Copy, Debug, PartialEq, Eq, Hash)]
 pub enum Side {
     Black,
     White,
@@ -25,7 +25,7 @@ impl Side {
 }
 
 /// What a cell holds. `Free` is the mark of an open cell.
-#[derive(Clone, Copy, Debug, PartialEq, Eq)]
+#[derive(Clone, Copy, Debug, PartialEq, Eq, Hash)]
 pub enum Mark {
     Free,
     Black,

@@ -4,6 +4,7 @@
 //! force a goal. `docs/DEFINITIONS.md` leads through the rest.
 #![tactic(auto)]
 
+mod certificate;
 mod check;
 mod circuit;
 mod command;
@@ -16,6 +17,9 @@ mod steps;
 mod texts;
 mod tokens;
 
+pub use certificate::{
+    Answered, Cert, CertFault, CertReadFault, Node, NodeNo, ReplyList, TurnFault,
+};
 pub use check::{Axis, CheckFault, Item, Part};
 pub use circuit::{Gate, NodeId, Wire};
 pub use command::Command;

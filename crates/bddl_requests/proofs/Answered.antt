@@ -31,6 +31,14 @@ two_files bytes_of (f ∷ []) v w d p e h k x y = absurd (omega arith)
 two_files bytes_of (f ∷ g ∷ []) v w d p e h k x y = ap₂ (λ a b. a ∷ b ∷ []) (sym (x ∙ ap bytes_of h)) (sym (y ∙ ap bytes_of k))
 two_files bytes_of (f ∷ g ∷ i ∷ more) v w d p e h k x y = absurd (omega arith)
 
+-- the contents, which are three
+pub three_files : {V : Type 0} (bytes_of : V → List ℕ) (files : List V) (u v w : V) (d p c : List ℕ) → length (map bytes_of files) ≡ 3 → u ≡ get_or files 0 u → v ≡ get_or files 1 v → w ≡ get_or files 2 w → d ≡ bytes_of u → p ≡ bytes_of v → c ≡ bytes_of w → map bytes_of files ≡ d ∷ p ∷ c ∷ []
+three_files bytes_of [] u v w d p c e h k l x y z = absurd (omega arith)
+three_files bytes_of (f ∷ []) u v w d p c e h k l x y z = absurd (omega arith)
+three_files bytes_of (f ∷ g ∷ []) u v w d p c e h k l x y z = absurd (omega arith)
+three_files bytes_of (f ∷ g ∷ i ∷ []) u v w d p c e h k l x y z = ap₂ (λ a bs. a ∷ bs) (sym (x ∙ ap bytes_of h)) (ap₂ (λ a b. a ∷ b ∷ []) (sym (y ∙ ap bytes_of k)) (sym (z ∙ ap bytes_of l)))
+three_files bytes_of (f ∷ g ∷ i ∷ j ∷ more) u v w d p c e h k l x y z = absurd (omega arith)
+
 -- the content, which is one
 pub one_file : {V : Type 0} (bytes_of : V → List ℕ) (files : List V) (v : V) (d : List ℕ) → length (map bytes_of files) ≡ 1 → v ≡ get_or files 0 v → d ≡ bytes_of v → map bytes_of files ≡ d ∷ []
 one_file bytes_of [] v d e h x = absurd (omega arith)
@@ -146,6 +154,8 @@ refusal_writes_nothing (refusal.File word (file_end.TooLong most)) = (refl, refl
 refusal_writes_nothing (refusal.Content (content.Text text place f)) = (refl, refl)
 refusal_writes_nothing (refusal.Content (content.Check f)) = (refl, refl)
 refusal_writes_nothing (refusal.Content (content.Formula f)) = (refl, refl)
+refusal_writes_nothing (refusal.Content (content.CertText f)) = (refl, refl)
+refusal_writes_nothing (refusal.Content (content.Cert f)) = (refl, refl)
 
 pub nothing_is_written : (r : Refusal) (old new : Option (List ℕ)) → new ≡ old → new ≡ with_bytes old (refusal_told r).out
 nothing_is_written r old new same = same ∙ sym (with_bytes_none old) ∙ ap (with_bytes old) (sym (refusal_writes_nothing r).0)
@@ -157,6 +167,8 @@ status_of_words (refusal.File word (file_end.TooLong most)) e = absurd (omega ar
 status_of_words (refusal.Content (content.Text text place f)) e = absurd (omega arith)
 status_of_words (refusal.Content (content.Check f)) e = absurd (omega arith)
 status_of_words (refusal.Content (content.Formula f)) e = absurd (omega arith)
+status_of_words (refusal.Content (content.CertText f)) e = absurd (omega arith)
+status_of_words (refusal.Content (content.Cert f)) e = absurd (omega arith)
 
 pub status_of_read : (T : Type 0) (r : Refusal) (before after : ℕ) → Counts before after (is_read_fault {T = T} (Err (stop.Refused r))) → ((refusal_told r).status ≡ 3 → Rose before after) × (before < after → (refusal_told r).status ≡ 3)
 status_of_read T refusal.NoRequest before after h = ((λ e. absurd (omega arith)), λ lt. absurd (omega arith))
@@ -165,6 +177,8 @@ status_of_read T (refusal.File word (file_end.TooLong most)) before after h = ((
 status_of_read T (refusal.Content (content.Text text place f)) before after h = ((λ e. absurd (omega arith)), λ lt. absurd (omega arith))
 status_of_read T (refusal.Content (content.Check f)) before after h = ((λ e. absurd (omega arith)), λ lt. absurd (omega arith))
 status_of_read T (refusal.Content (content.Formula f)) before after h = ((λ e. absurd (omega arith)), λ lt. absurd (omega arith))
+status_of_read T (refusal.Content (content.CertText f)) before after h = ((λ e. absurd (omega arith)), λ lt. absurd (omega arith))
+status_of_read T (refusal.Content (content.Cert f)) before after h = ((λ e. absurd (omega arith)), λ lt. absurd (omega arith))
 
 -- the refusal of words that are no request
 pub words_refused : (result : Result Close (Stop Refusal)) (s : Stop Refusal) (r : Refusal) → result ≡ Err s → s ≡ stop.Refused r → (result ≡ Err (stop.Refused refusal.NoRequest)) ⊎ (result ≡ Err stop.NoMemory) → (refusal_told r).status ≡ 1
@@ -174,10 +188,16 @@ words_refused result s r h is (inl e) =
 words_refused result s r h is (inr e) = absurd (let err = sym h ∙ e in cc)
 
 -- what a status other than 4 and 5 says of the telling
-told_status : (end : End) (old new : Option (List ℕ)) (status n : ℕ) → n < 4 → Tells end old new status → status ≡ n → (end.status ≡ n) × (new ≡ with_bytes old end.note)
-told_status end old new status n few (inl (is, told)) e = (sym is ∙ e, told)
-told_status end old new status n few (inr (inl four, front)) e = absurd (omega arith)
-told_status end old new status n few (inr (inr five, front)) e = absurd (omega arith)
+told_status : (end : End) (old new : Option (List ℕ)) (status n : ℕ) → NotCut n → Tells end old new status → status ≡ n → (end.status ≡ n) × (new ≡ with_bytes old end.note)
+told_status end old new status n whole (inl (is, told)) e = (sym is ∙ e, told)
+told_status end old new status n whole (inr (inl four, front)) e = absurd (whole.0 (sym e ∙ four))
+told_status end old new status n whole (inr (inr five, front)) e = absurd (whole.1 (sym e ∙ five))
+
+below_four : (n : ℕ) → n < 4 → NotCut n
+below_four n few = ((λ four. omega (arith, few, four)), λ five. omega (arith, few, five))
+
+pub six : NotCut 6
+six = ((λ four. omega (arith, four)), λ five. omega (arith, five))
 
 no_carried : (n m : ℕ) → is_carried_out n ≡ true → n ≡ m → is_carried_out m ≡ false → ⊥
 no_carried n m carried same other =
@@ -190,7 +210,7 @@ refusal_is_no_result r old new status (inr (inl four, front)) carried = absurd (
 refusal_is_no_result r old new status (inr (inr five, front)) carried = absurd (no_carried status 5 carried five refl)
 
 pub refusal_status : (r : Refusal) (old new : Option (List ℕ)) (status n : ℕ) → n < 4 → Tells (refusal_told r) old new status → status ≡ n → (refusal_told r).status ≡ n
-refusal_status r old new status n few h e = (told_status (refusal_told r) old new status n few h e).0
+refusal_status r old new status n few h e = (told_status (refusal_told r) old new status n (below_four n few) h e).0
 
 -- a status that was told, or 4 or 5
 pub told_or_cut : (end : End) (old new : Option (List ℕ)) (status n : ℕ) → Tells end old new status → end.status ≡ n → (status ≡ n) ⊎ (status ≡ 4) ⊎ (status ≡ 5)
@@ -205,15 +225,20 @@ close_carries close.Done = refl
 close_carries close.Yes = refl
 close_carries close.No = refl
 close_carries close.Spent = refl
+close_carries close.NoStrategy = refl
+close_carries close.NotFound = refl
 
 pub carried_out : (held : Option Files) (asked : Option Request) (c : Close) (old new : Option (List ℕ)) (noted now : Option (List ℕ)) (status : ℕ) → (written : Writes refusal_told (MayEnd true held asked) old new (Ok c)) → Tells (closed c written.0) noted now status → is_carried_out status ≡ true
-    → (end : End) × IsResult held asked end × (status ≡ end.status) × (new ≡ with_bytes old end.out) × (now ≡ noted)
+    → (end : End) × IsResult held asked end × (status ≡ end.status) × (new ≡ with_bytes old end.out) × (now ≡ with_bytes noted end.note)
 carried_out held asked c old new noted now status (text, e, w) (inl (is, told)) carried =
-    (closed c text, result_of_request held asked (closed c text) (close_carries c) e, is, w, told ∙ with_bytes_none noted)
+    (closed c text, result_of_request held asked (closed c text) (close_carries c) e, is, w, told)
 carried_out held asked c old new noted now status (text, e, w) (inr (inl four, front)) carried = absurd (no_carried status 4 carried four refl)
 carried_out held asked c old new noted now status (text, e, w) (inr (inr five, front)) carried = absurd (no_carried status 5 carried five refl)
 
 -- its status is no other one
+pub close_is_no_end : {X : Type 0} (c : Close) (text : List ℕ) (old new : Option (List ℕ)) (status n : ℕ) → NotCut n → is_carried_out n ≡ false → Tells (closed c text) old new status → status ≡ n → X
+close_is_no_end c text old new status n whole other told e =
+    absurd (no_carried (close_status c) n (close_carries c) (told_status (closed c text) old new status n whole told e).0 other)
+
 pub close_is_no_refusal : {X : Type 0} (c : Close) (text : List ℕ) (old new : Option (List ℕ)) (status n : ℕ) → n < 4 → is_carried_out n ≡ false → Tells (closed c text) old new status → status ≡ n → X
-close_is_no_refusal c text old new status n few other told e =
-    absurd (no_carried (close_status c) n (close_carries c) (told_status (closed c text) old new status n few told e).0 other)
+close_is_no_refusal c text old new status n few other told e = close_is_no_end c text old new status n (below_four n few) other told e

@@ -2,3 +2,4 @@ mod Results
 mod Built
 mod Answered
 pub mod Deciding
+pub mod Certifying

@@ -6,7 +6,10 @@ ghost use Rattle.bddl_model.specs.Request.{request_of};
 ghost use Rattle.io_edge.specs.Outside.{Counts, Rose, with_bytes};
 ghost use Rattle.request_parts.specs.Ends.{Answers, AreWithin, NotCut, Tells, Writes, content_told, is_read_fault, is_write_fault, refusal_told};
 
+use crate::certify::certify;
+use crate::check::check;
 use crate::compile::compile;
+use crate::recertify::recertify;
 use crate::solve::solve;
 use crate::solve_formula::solve_formula;
 use bddl_model::Command;
@@ -20,7 +23,7 @@ use std::alloc::{AllocError, Global};
 
 /// Carries out the request of the words, and answers the exit status: 0 where it was carried out and
 /// had nothing to decide, 10, 20 and 30 where the game or the formula was decided in favour of Black,
-/// or against it, or its steps were spent, 1 where the words are no request, 2 where a file is
+/// or against it, or its steps were spent, 6 where a certificate is refused, 1 where the words are no request, 2 where a file is
 /// refused, 3 where a named file could not be read, 4 where a write failed, 5 where memory ran out.
 /// The decider chooses what a search tries first; what is found doesn't depend on it.
 pub fn run<S: Shelf, K: Sink, N: Sink>(
@@ -39,18 +42,20 @@ pub fn run<S: Shelf, K: Sink, N: Sink>(
     ensures calm { S.calm shelf.old → Answers (MayEnd false (S.held shelf.old) (request_of (map (λ w. w.items) words.now)))
         (K.written out.old) (K.written out.new) (N.written note.old) (N.written note.new) result }
 
-    // With 0, 10, 20 and 30 the status and the whole of out are the result of what stands in the files, and nothing was noted.
+    // With 0, 10, 20 and 30 the status, the whole of out and the note are the result of what stands in the files.
     // `compile` writes the text of a form that encodes the game of the two files, and this form alone is read from the text: its
     // value is that of winning. `solve` and `qsolve` tell that value, or that the steps are spent, which are then below the bound.
+    // `certify` writes a valid certificate of the game, in its shared form, or notes that Black doesn't win or that the steps are
+    // spent. `check` accepts valid certificates alone, and Black wins where there is one.
     ensures carried_out { is_carried_out result ≡ true → (end : End) × IsResult (S.held shelf.old) (request_of (map (λ w. w.items) words.now)) end
-        × (result ≡ end.status) × (K.written out.new ≡ with_bytes (K.written out.old) end.out) × (N.written note.new ≡ N.written note.old) }
+        × (result ≡ end.status) × (K.written out.new ≡ with_bytes (K.written out.old) end.out) × (N.written note.new ≡ with_bytes (N.written note.old) end.note) }
 
     // 1 is for words that are no request.
     ensures words { result ≡ 1 → request_of (map (λ w. w.items) words.now) ≡ None }
     ensures no_request { request_of (map (λ w. w.items) words.now) ≡ None → (result ≡ 1) ⊎ (result ≡ 4) ⊎ (result ≡ 5) }
 
-    // After 1, 2 and 3 nothing was written to out.
-    ensures refused { (result ≡ 1) ⊎ (result ≡ 2) ⊎ (result ≡ 3) → K.written out.new ≡ K.written out.old }
+    // After 1, 2, 3 and 6 nothing was written to out.
+    ensures refused { (result ≡ 1) ⊎ (result ≡ 2) ⊎ (result ≡ 3) ⊎ (result ≡ 6) → K.written out.new ≡ K.written out.old }
 
     // 3 and 4 are for faults of the outside.
     ensures read_fault { result ≡ 3 → Rose (S.faults shelf.old) (S.faults shelf.new) }
@@ -113,6 +118,16 @@ fn answer<K: Sink>(
         Command::SolveFormula => {
             solve_formula(alloc, &contents[0], request.numbers[0], decider, out)
         }
+        Command::Certify => certify(
+            alloc,
+            &contents[0],
+            &contents[1],
+            request.numbers[0],
+            decider,
+            out,
+        ),
+        Command::Check => check(alloc, &contents[0], &contents[1], &contents[2], out),
+        Command::Recertify => recertify(alloc, &contents[0], &contents[1], &contents[2], out),
         Command::FormatDomain => format_domain(alloc, &contents[0], out),
         Command::FormatProblem => format_problem(alloc, &contents[0], out),
         Command::Help => help(out),

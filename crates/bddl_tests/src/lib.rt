@@ -6,6 +6,10 @@ mod about;
 #[cfg(test)]
 mod answers;
 #[cfg(test)]
+mod certificates;
+#[cfg(test)]
+mod certifying;
+#[cfg(test)]
 mod checks;
 #[cfg(test)]
 mod domains;

@@ -1,6 +1,7 @@
 // The request `solve`: games that Black wins, games that it doesn't, and steps that are spent.
 
 use crate::answers::{Answer, answer_under, assert_answer, plain_decider, shelf_of};
+use crate::certifying::assert_certified;
 use crate::domains::{ADVANCE, NONE, OCCUPY};
 use crate::games::FIVE;
 use bddl_model::{Lit, Var};
@@ -40,14 +41,18 @@ fn assert_decided(
     Ok(())
 }
 
-// The same under the program's decider.
+// The same under the program's decider, and a certificate is found of each that is won.
 fn assert_wins(
     rt: &impl Abort,
     alloc: Global,
     domain: &str,
     cases: &[(&str, bool)],
 ) -> Result<(), Fail> {
-    assert_decided(rt, alloc, domain, cases, &mut plain_decider(alloc)?)
+    assert_decided(rt, alloc, domain, cases, &mut plain_decider(alloc)?)?;
+    for (problem, won) in cases {
+        assert_certified(rt, alloc, domain, problem, *won)?;
+    }
+    Ok(())
 }
 
 #[test]

@@ -9,3 +9,4 @@ pub mod MoveAnchors
 pub mod MoveLegal
 pub mod MoveRows
 pub mod MoveActions
+pub mod SameMarks

@@ -1,6 +1,7 @@
 // Boards.
-ghost use Rattle.std.specs.Prelude.{◌≡◌, ◌≤◌, ◌<◌, ◌*◌, true, IfOk};
+ghost use Rattle.std.specs.Prelude.{◌≡◌, ◌≤◌, ◌<◌, ◌*◌, true, length, IfOk};
 ghost use Rattle.bddl_model.specs.Board as spec;
+ghost use Rattle.bddl_model.specs.Certificate.{same_board};
 ghost use Rattle.bddl_model.specs.Game.{greatest_side};
 ghost use Rattle.bddl_model.specs.Fitting.{on_side};
 ghost use Rattle.bddl_model.specs.Limits.{IsSide, IsBoard};
@@ -94,6 +95,21 @@ impl Board {
         self.marks[index(self.width, self.height, x, y)]
     }
 
+    /// The marks, row after row.
+    pub fn marks(&self) -> &[Mark]
+        ensures { result.now ≡ self.now.marks }
+    {
+        &self.marks
+    }
+
+    /// Puts these marks in the place of all, row after row.
+    pub fn set_marks(&mut self, marks: &[Mark])
+        requires { length marks.now ≡ self.old.height * self.old.width }
+        ensures { self.new ≡ record self.old { marks = marks.now } }
+    {
+        self.marks.copy_from_slice(marks);
+    }
+
     /// A board of its own with the same marks.
     pub fn copy(&self) -> Result<Board, NoMemory>
         ensures { IfOk result (λ b. b ≡ self.now) }
@@ -103,5 +119,20 @@ impl Board {
             height: self.height,
             marks: self.marks.clone()?,
         })
+    }
+
+    /// Takes over the marks of a board with the same sides.
+    pub fn copy_from(&mut self, other: &Board)
+        requires { (self.old.width ≡ other.now.width) × (self.old.height ≡ other.now.height) }
+        ensures { self.new ≡ other.now }
+    {
+        self.marks.copy_from_slice(&other.marks);
+    }
+
+    /// Whether the marks of two boards are the same.
+    pub fn same_marks(&self, other: &Board) -> bool
+        ensures { result ≡ same_board self.now.marks other.now.marks }
+    {
+        self.marks == other.marks
     }
 }

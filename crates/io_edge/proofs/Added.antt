@@ -1,6 +1,7 @@
 -- A text that goes into a buffer part by part: what went in, and what is still to come.
-use Rattle.std.proofs.Common.{ℕ, ◌≡◌, List, [], ◌++◌, Option, Result, Ok, Err, refl, sym, ap, subst, ◌∙◌, append_assoc}
+use Rattle.std.proofs.Common.{ℕ, ◌≡◌, ◌+◌, ◌<◌, List, [], ◌++◌, drop, flat_map, length, slice_index_or, Option, Result, Ok, Err, refl, sym, ap, subst, ◌∙◌, append_assoc}
 use Rattle.std.specs.Prelude.{IsErr}
+use Rattle.std.proofs.lemmas.List.{drop_more}
 use Rattle.io_edge.specs.Outside.{WithFront}
 use Rattle.io_edge.specs.Puts.{Adds}
 use Rattle.io_edge.specs.declared.sink.SinkEnd.{SinkEnd}
@@ -43,3 +44,8 @@ added_last text rest last e old mid new held_old held_mid held_new r a m =
 -- the same text by another account
 pub adds_same : (a b : List ℕ) → a ≡ b → (old new : Option (List ℕ)) (held_old held_new : List ℕ) (r : Result Unit SinkEnd) → Adds a old held_old new held_new r → Adds b old held_old new held_new r
 adds_same a b e old new held_old held_new r m = subst (λ t. Adds t old held_old new held_new r) e m
+
+-- ---- the text of a list
+
+pub flat_map_next : {A : Type 0} (text : A → List ℕ) (xs : List A) (i : ℕ) (d x : A) → i < length xs → x ≡ slice_index_or xs i d → flat_map text (drop i xs) ≡ text x ++ flat_map text (drop (i + 1) xs)
+flat_map_next text xs i d x within e = ap (flat_map text) (drop_more xs i d within) ∙ ap (λ y. text y ++ flat_map text (drop (i + 1) xs)) (sym e)

@@ -15,6 +15,7 @@ mod sink;
 mod steady_sink;
 mod stream_sink;
 mod text;
+mod texts;
 
 pub use file_shelf::FileShelf;
 pub use memory_shelf::MemoryShelf;
@@ -25,3 +26,4 @@ pub use sink::{Sink, SinkEnd};
 pub use steady_sink::SteadySink;
 pub use stream_sink::StreamSink;
 pub use text::put_text;
+pub use texts::add_texts;

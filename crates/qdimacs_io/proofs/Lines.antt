@@ -44,9 +44,6 @@ head_is v c = simp append_assoc
 
 -- ---- from one to the next
 
-pub flat_map_next : {A : Type 0} (text : A → List ℕ) (xs : List A) (i : ℕ) (d x : A) → i < length xs → x ≡ slice_index_or xs i d → flat_map text (drop i xs) ≡ text x ++ flat_map text (drop (i + 1) xs)
-flat_map_next text xs i d x within e = ap (flat_map text) (drop_more xs i d within) ∙ ap (λ y. text y ++ flat_map text (drop (i + 1) xs)) (sym e)
-
 pub ended_next : {A : Type 0} (word : A → List ℕ) (xs : List A) (i : ℕ) (d : A) → i < length xs → ended word (drop i xs) ≡ (word (slice_index_or xs i d) ++ codes " ") ++ ended word (drop (i + 1) xs)
 ended_next word xs i d within =
     ap (ended word) (drop_more xs i d within) ∙ append_assoc (word (slice_index_or xs i d) ++ codes " ") (spaced word (drop (i + 1) xs)) (codes "0\n")

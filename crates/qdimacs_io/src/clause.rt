@@ -5,9 +5,8 @@ ghost use Rattle.io_edge.specs.Ends.{put_failed};
 ghost use Rattle.io_edge.specs.Outside.{Counts};
 ghost use Rattle.io_edge.specs.Puts.{Adds, Puts};
 
-use crate::texts::add_texts;
 use bddl_model::Lit;
-use io_edge::{PieceBuffer, Sink, SinkEnd};
+use io_edge::{PieceBuffer, Sink, SinkEnd, add_texts};
 use itoa::Buffer;
 
 /// Writes the line of a clause, with the literals in the order in which they are given. Nothing is

@@ -7,9 +7,8 @@ ghost use Rattle.io_edge.specs.Ends.{put_failed};
 ghost use Rattle.io_edge.specs.Outside.{Counts};
 ghost use Rattle.io_edge.specs.Puts.{Adds, Puts};
 
-use crate::texts::add_texts;
 use bddl_model::{Bound, Quant, Var};
-use io_edge::{PieceBuffer, Sink, SinkEnd};
+use io_edge::{PieceBuffer, Sink, SinkEnd, add_texts};
 use itoa::Buffer;
 use qbf_form::Prefix;
 

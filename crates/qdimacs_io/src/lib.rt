@@ -18,7 +18,6 @@ mod open_clause;
 mod prefix;
 mod read;
 mod reader;
-mod texts;
 mod tokens;
 mod words;
 mod write;

@@ -28,5 +28,7 @@ formula_stops bytes f (stop.Refused (content.Formula g)) (inl none) is = absurd 
 formula_stops bytes f (stop.Refused (content.Formula g)) (inr fails) is = inl (f, fails, ap (λ x. refused 2 (formula_note x)) is)
 formula_stops bytes f (stop.Refused (content.Check g)) fails is = absurd is
 formula_stops bytes f (stop.Refused (content.Text text place fault)) fails is = absurd is
+formula_stops bytes f (stop.Refused (content.CertText g)) fails is = absurd is
+formula_stops bytes f (stop.Refused (content.Cert g)) fails is = absurd is
 formula_stops bytes f stop.WriteFault fails is = absurd is
 formula_stops bytes f stop.NoMemory fails is = tt

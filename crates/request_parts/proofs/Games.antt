@@ -47,5 +47,7 @@ check_stops d p dom prob f checked (stop.Refused (content.Check g)) h r q (inl e
 check_stops d p dom prob f checked (stop.Refused (content.Check g)) h r q (inr e) is = absurd (g.is_found (is ∙ one_fault f check.NoMemory checked h e))
 check_stops d p dom prob f checked (stop.Refused (content.Text text place fault)) h r q found is = absurd is
 check_stops d p dom prob f checked (stop.Refused (content.Formula fault)) h r q found is = absurd is
+check_stops d p dom prob f checked (stop.Refused (content.CertText fault)) h r q found is = absurd is
+check_stops d p dom prob f checked (stop.Refused (content.Cert fault)) h r q found is = absurd is
 check_stops d p dom prob f checked stop.WriteFault h r q found is = absurd is
 check_stops d p dom prob f checked stop.NoMemory h r q found is = tt

@@ -4,3 +4,4 @@ pub mod Stopping
 pub mod Games
 pub mod Numbers
 pub mod Formulas
+pub mod Certificates

@@ -4,7 +4,10 @@ use Rattle.std.specs.FinMap.{get}
 use Rattle.bddl_model.specs.declared.tokens.LexFault.TheVariants as lex
 use Rattle.bddl_model.specs.declared.fault.ReadFault.{ReadFault}
 use Rattle.bddl_model.specs.declared.fault.ReadFault.TheVariants as fault
+use Rattle.bddl_model.specs.declared.certificate.Node.{Node}
 use Rattle.bddl_model.specs.Notes as notes
+use Rattle.bddl_model.specs.Setup.{Setup}
+use Rattle.bddl_model.specs.Verdicts.{no_win_text, spent_text}
 use Rattle.bddl_model.specs.Truth.{Formula}
 use Rattle.bddl_model.specs.Files.{Files}
 use Rattle.bddl_model.specs.Outcome.{End, refused, FileThen, FilesThen, IsWithin}
@@ -29,8 +32,12 @@ close_status close.Done = 0
 close_status close.Yes = 10
 close_status close.No = 20
 close_status close.Spent = 30
+close_status close.NoStrategy = 20
+close_status close.NotFound = 30
 
 abbrev pub close_note : Close → List ℕ
+close_note close.NoStrategy = no_win_text
+close_note close.NotFound = spent_text
 close_note c = []
 
 -- how it ends that wrote this text
@@ -45,6 +52,8 @@ abbrev pub content_told : Content → End
 content_told (content.Text text place f) = refused 2 (notes.place_note (text_name text) place (notes.fault_words f))
 content_told (content.Check f) = refused 2 (notes.check_note f.fault)
 content_told (content.Formula f) = refused 2 (notes.formula_note f.fault)
+content_told (content.CertText f) = refused 6 (notes.cert_text_note f.fault)
+content_told (content.Cert f) = refused 6 (notes.cert_note f.fault)
 
 abbrev pub refusal_told : Refusal → End
 refusal_told refusal.NoRequest = refused 1 notes.no_such_request
@@ -89,6 +98,9 @@ StopsAt told ends stop.NoMemory = Unit {0}
 -- nothing goes on
 abbrev pub Nothing : {A : Type 0} → A → End → Type 0
 Nothing x end = ⊥
+
+abbrev pub NoCertificate : Setup → List Node → End → Type 0
+NoCertificate s nodes end = ⊥
 
 abbrev pub NoFormula : ℕ → ℕ → Formula → End → Type 0
 NoFormula variables clauses form end = ⊥

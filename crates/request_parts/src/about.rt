@@ -17,6 +17,11 @@ pub fn help<K: Sink>(out: &mut K) -> Result<Close, Stop<Content>>
         b"bddl compile DOMAIN PROBLEM   writes the formula of a game\n\
         bddl solve DOMAIN PROBLEM N   decides a game, in at most N steps\n\
         bddl qsolve FORMULA N         decides a formula, in at most N steps\n\
+        bddl certify DOMAIN PROBLEM N writes a strategy of Black, found in at most N steps\n\
+        bddl check DOMAIN PROBLEM CERTIFICATE\n\
+        \x20                             tells whether a strategy wins\n\
+        bddl recert DOMAIN PROBLEM CERTIFICATE\n\
+        \x20                             writes it with one node for each place\n\
         bddl fmt-domain DOMAIN        writes the canonical text of a domain\n\
         bddl fmt-problem PROBLEM      writes the canonical text of a problem\n\
         bddl help, bddl --help        writes this text\n\
@@ -28,6 +33,7 @@ pub fn help<K: Sink>(out: &mut K) -> Result<Close, Stop<Content>>
         3   a file could not be read\n\
         4   a write failed\n\
         5   memory ran out\n\
+        6   a certificate is refused\n\
         10  the game is won, or the formula is true\n\
         20  the game is not won, or the formula is false\n\
         30  the steps are spent\n",

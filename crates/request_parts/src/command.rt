@@ -7,6 +7,9 @@ use bddl_model::Command;
 // The most bytes of a game file.
 const GAME: Option<u64> = Some(1_048_576);
 
+// A certificate may be as long as memory allows.
+const CERTIFICATE: Option<u64> = None;
+
 // The most bytes of a formula file.
 const FORMULA: Option<u64> = Some(67_108_864);
 
@@ -22,6 +25,15 @@ pub fn named(word: &[u8]) -> Option<Command>
     }
     if word == b"qsolve".as_slice() {
         return Some(Command::SolveFormula);
+    }
+    if word == b"certify".as_slice() {
+        return Some(Command::Certify);
+    }
+    if word == b"check".as_slice() {
+        return Some(Command::Check);
+    }
+    if word == b"recert".as_slice() {
+        return Some(Command::Recertify);
     }
     if word == b"fmt-domain".as_slice() {
         return Some(Command::FormatDomain);
@@ -44,7 +56,8 @@ pub fn limits_of(command: Command) -> &'static [Option<u64>]
     ensures few { length result.now ≤ 3 }
 {
     match command {
-        Command::Compile | Command::Solve => &[GAME, GAME],
+        Command::Compile | Command::Solve | Command::Certify => &[GAME, GAME],
+        Command::Check | Command::Recertify => &[GAME, GAME, CERTIFICATE],
         Command::SolveFormula => &[FORMULA],
         Command::FormatDomain | Command::FormatProblem => &[GAME],
         Command::Help | Command::Version => &[],
@@ -57,8 +70,10 @@ pub fn numbers_of(command: Command) -> usize
     ensures few { result ≤ 2 }
 {
     match command {
-        Command::Solve | Command::SolveFormula => 1,
+        Command::Solve | Command::SolveFormula | Command::Certify => 1,
         Command::Compile
+        | Command::Check
+        | Command::Recertify
         | Command::FormatDomain
         | Command::FormatProblem
         | Command::Help

@@ -1,13 +1,14 @@
 // The notes: what is told of a request that was not carried out.
 ghost use Rattle.std.specs.Prelude.{◌≡◌, ◌≢◌, IfOk, string_bytes};
-ghost use Rattle.bddl_model.specs.Notes.{place_note, check_note, formula_note, line_note, check_words, fault_words, side_name, axis_name, item_text, limit_words};
+ghost use Rattle.bddl_model.specs.Notes.{place_note, check_note, formula_note, line_note, cert_text_note, cert_note, node_note, check_words, fault_words, side_name, axis_name, item_text, limit_words};
 ghost use Rattle.request_parts.specs.Ends.{NotCut, content_told, refusal_told, text_name};
 ghost use Rattle.bddl_model.specs.declared.check.CheckFault.TheVariants.{NoMemory as no_fault};
 
-use crate::found_faults::{FormulaFault, GameFault};
+use crate::found_faults::{CertTextFault, FormulaFault, GameFault, NodeFault};
 use crate::refusal::{Content, FileEnd, GameText, Refusal};
 use bddl_model::{
-    Axis, CheckFault, GREATEST_SIDE, Item, LexFault, Part, Place, QFault, ReadFault, Side,
+    Axis, CertFault, CertReadFault, CheckFault, GREATEST_SIDE, Item, LexFault, Part, Place, QFault,
+    ReadFault, Side,
 };
 use std::alloc::{AllocError, Global};
 
@@ -22,6 +23,7 @@ pub fn status_of(refusal: Refusal) -> u8
             end: FileEnd::ReadFault,
             ..
         } => 3,
+        Refusal::Content(Content::CertText(_) | Content::Cert(_)) => 6,
         Refusal::File { .. } | Refusal::Content(_) => 2,
     }
 }
@@ -55,6 +57,8 @@ fn content_text(alloc: Global, content: Content) -> Result<String, AllocError>
         }
         Content::Check(fault) => check_text(alloc, fault),
         Content::Formula(fault) => formula_text(alloc, fault),
+        Content::CertText(fault) => cert_read_text(alloc, fault),
+        Content::Cert(fault) => cert_text(alloc, fault),
     }
 }
 
@@ -119,6 +123,50 @@ fn line_text(alloc: Global, line: u32, words: &str) -> Result<String, AllocError
     ensures { IfOk result (λ text. string_bytes text ≡ line_note line words.now) }
 {
     format!(in alloc; "qdimacs:{line}: {words}\n")
+}
+
+// The line that tells a fault of a certificate's text.
+fn cert_read_text(alloc: Global, fault: CertTextFault) -> Result<String, AllocError>
+    ensures { IfOk result (λ line. string_bytes line ≡ cert_text_note fault.fault) }
+{
+    match fault.fault {
+        CertReadFault::NotHeader => format!(in alloc; "certificate: bad header\n"),
+        CertReadFault::NotALine { node } => node_text(alloc, node, "bad line"),
+        CertReadFault::EndsEarly { node } => node_text(alloc, node, "text ends early"),
+        CertReadFault::BadNext { node } => node_text(alloc, node, "next node is not later"),
+        CertReadFault::Unused { node } => node_text(alloc, node, "not used"),
+        CertReadFault::NotReached { node } => node_text(alloc, node, "not reached"),
+        CertReadFault::CountDiffers { said, found } => {
+            format!(in alloc; "certificate: count differs: said {said}, found {found}\n")
+        }
+        CertReadFault::NoMemory => unreachable!(),
+    }
+}
+
+// The line that tells a fault of a certificate.
+fn cert_text(alloc: Global, fault: NodeFault) -> Result<String, AllocError>
+    ensures { IfOk result (λ line. string_bytes line ≡ cert_note fault.fault) }
+{
+    match fault.fault {
+        CertFault::TwoPlaces { node } => node_text(alloc, node, "two places"),
+        CertFault::WrongSide { node } => node_text(alloc, node, "wrong side"),
+        CertFault::WhiteGoalStands { node } => node_text(alloc, node, "white goal stands"),
+        CertFault::PliesSpent { node } => node_text(alloc, node, "plies spent"),
+        CertFault::IllegalMove { node } => node_text(alloc, node, "illegal move"),
+        CertFault::GoalDoesNotStand { node } => node_text(alloc, node, "goal does not stand"),
+        CertFault::Stuck { node } => node_text(alloc, node, "white is stuck"),
+        CertFault::RepliesDiffer { node, place } => {
+            let words = format!(in alloc; "replies differ at {place}")?;
+            node_text(alloc, node, &words)
+        }
+        CertFault::NoMemory => unreachable!(),
+    }
+}
+
+fn node_text(alloc: Global, node: u64, words: &str) -> Result<String, AllocError>
+    ensures { IfOk result (λ text. string_bytes text ≡ node_note node words.now) }
+{
+    format!(in alloc; "certificate: node {node}: {words}\n")
 }
 
 // The line that tells a fault of a game.

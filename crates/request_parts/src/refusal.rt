@@ -1,11 +1,11 @@
 // How a request ends.
 ghost use Rattle.std.specs.Prelude.{◌≡◌, IfOk, string_bytes};
 ghost use Rattle.request_parts.specs.Ends.{NotCut, close_note, close_status};
-ghost use Rattle.request_parts.specs.Stops.{IsFormulaStopOf, IsStopOf, stop_of_content, stop_of_sink};
+ghost use Rattle.request_parts.specs.Stops.{IsCertStopOf, IsCertTextStopOf, IsFormulaStopOf, IsStopOf, stop_of_content, stop_of_sink};
 ghost use Rattle.request_parts.specs.declared.refusal.Stop.TheVariants.{NoMemory as out_of_memory};
 
-use crate::found_faults::{FormulaFault, GameFault};
-use bddl_model::{CheckFault, NoMemory, Place, QFault, ReadFault};
+use crate::found_faults::{CertTextFault, FormulaFault, GameFault, NodeFault};
+use bddl_model::{CertFault, CertReadFault, CheckFault, NoMemory, Place, QFault, ReadFault};
 use io_edge::SinkEnd;
 use std::alloc::{AllocError, AllocFailed, Global};
 
@@ -20,6 +20,10 @@ pub enum Close {
     No,
     /// The steps are spent.
     Spent,
+    /// There is no certificate, since Black doesn't win. This is noted.
+    NoStrategy,
+    /// The steps are spent, and no certificate was found. This is noted.
+    NotFound,
 }
 
 impl Close {
@@ -31,8 +35,8 @@ impl Close {
         match self {
             Close::Done => 0,
             Close::Yes => 10,
-            Close::No => 20,
-            Close::Spent => 30,
+            Close::No | Close::NoStrategy => 20,
+            Close::Spent | Close::NotFound => 30,
         }
     }
 
@@ -42,6 +46,8 @@ impl Close {
     {
         match self {
             Close::Done | Close::Yes | Close::No | Close::Spent => Ok(String::new(alloc)),
+            Close::NoStrategy => format!(in alloc; "no win\n"),
+            Close::NotFound => format!(in alloc; "spent\n"),
         }
     }
 }
@@ -64,6 +70,8 @@ pub enum Content {
     },
     Check(GameFault),
     Formula(FormulaFault),
+    CertText(CertTextFault),
+    Cert(NodeFault),
 }
 
 /// What is wrong with a file, whatever stands in it.
@@ -144,6 +152,28 @@ impl From<QFault> for Stop<Content> {
         match fault {
             QFault::NoMemory => Stop::NoMemory,
             found => Stop::Refused(Content::Formula(FormulaFault { fault: found })),
+        }
+    }
+}
+
+impl From<CertReadFault> for Stop<Content> {
+    ghost from_gives = { λ fault stop. IsCertTextStopOf fault stop };
+
+    fn from(fault: CertReadFault) -> Self {
+        match fault {
+            CertReadFault::NoMemory => Stop::NoMemory,
+            found => Stop::Refused(Content::CertText(CertTextFault { fault: found })),
+        }
+    }
+}
+
+impl From<CertFault> for Stop<Content> {
+    ghost from_gives = { λ fault stop. IsCertStopOf fault stop };
+
+    fn from(fault: CertFault) -> Self {
+        match fault {
+            CertFault::NoMemory => Stop::NoMemory,
+            found => Stop::Refused(Content::Cert(NodeFault { fault: found })),
         }
     }
 }

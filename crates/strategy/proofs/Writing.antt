@@ -9,7 +9,7 @@ use Rattle.bddl_model.specs.Setup.{Setup}
 use Rattle.bddl_model.specs.Truth.{Formula}
 use Rattle.io_edge.specs.Puts.{Puts}
 use Rattle.io_edge.specs.declared.sink.SinkEnd.{SinkEnd}
-use Rattle.qdimacs_io.proofs.Lines.{flat_map_next}
+use Rattle.io_edge.proofs.Added.{flat_map_next}
 use Rattle.strategy.specs.Written.{WritesForm}
 
 -- the line of the clause with this number is the next one

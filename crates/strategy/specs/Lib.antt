@@ -1,1 +1,4 @@
 pub mod Written
+pub mod FirstMoves
+pub mod Growing
+pub mod Extracted

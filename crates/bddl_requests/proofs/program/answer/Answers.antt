@@ -1,7 +1,7 @@
 use Rattle.std.proofs.Common.{map}
-use Rattle.bddl_model.specs.declared.command.Command.TheVariants.{Compile, Solve, SolveFormula, FormatDomain, FormatProblem}
+use Rattle.bddl_model.specs.declared.command.Command.TheVariants.{Compile, Solve, SolveFormula, Certify, Check, Recertify, FormatDomain, FormatProblem}
 use Rattle.bddl_model.specs.Request.{limits_of}
-use Rattle.bddl_requests.proofs.Answered.{one_file, two_files, written_by, written_by_number}
+use Rattle.bddl_requests.proofs.Answered.{one_file, three_files, two_files, written_by, written_by_number}
 use Rattle.request_parts.proofs.Files.{within_length}
 use Rattle.bddl_requests.proofs.program.answer.Goals as goal
 
@@ -34,3 +34,21 @@ returns-in-SolveFormula-clause-written g c =
     let one = rw c.in-SolveFormula.is at (within_length (limits_of c.args.request.now.command) (map (λ w. w.items) c.args.contents.now) c.requires.within) in
     let files = one_file (λ w. w.items) c.args.contents.now c.index-contents-0-in-SolveFormula.result c.deref-in-SolveFormula.result.now one c.index-contents-0-in-SolveFormula.is c.deref-in-SolveFormula.ensures.value in
     written_by_number SolveFormula _ _ _ _ _ _ _ c.in-SolveFormula.is files c.index-in-SolveFormula.result.now (rw c.in-SolveFormula.is at c.requires.numbers) c.index-in-SolveFormula.ensures c.solve_formula.ensures.written
+
+pub returns-in-Certify-clause-written : goal.returns-in-Certify-clause-written
+returns-in-Certify-clause-written g c =
+    let two = rw c.in-Certify.is at (within_length (limits_of c.args.request.now.command) (map (λ w. w.items) c.args.contents.now) c.requires.within) in
+    let files = two_files (λ w. w.items) c.args.contents.now c.index-contents-0-in-Certify.result c.index-contents-1-in-Certify.result c.deref-in-Certify.result.now c.deref-in-Certify-2.result.now two c.index-contents-0-in-Certify.is c.index-contents-1-in-Certify.is c.deref-in-Certify.ensures.value c.deref-in-Certify-2.ensures.value in
+    written_by_number Certify _ _ _ _ _ _ _ c.in-Certify.is files c.index-in-Certify.result.now (rw c.in-Certify.is at c.requires.numbers) c.index-in-Certify.ensures c.certify.ensures.written
+
+pub returns-in-Check-clause-written : goal.returns-in-Check-clause-written
+returns-in-Check-clause-written g c =
+    let three = rw c.in-Check.is at (within_length (limits_of c.args.request.now.command) (map (λ w. w.items) c.args.contents.now) c.requires.within) in
+    let files = three_files (λ w. w.items) c.args.contents.now c.index-contents-0-in-Check.result c.index-contents-1-in-Check.result c.index-contents-2.result c.deref-in-Check.result.now c.deref-in-Check-2.result.now c.deref-in-Check-3.result.now three c.index-contents-0-in-Check.is c.index-contents-1-in-Check.is c.index-contents-2.is c.deref-in-Check.ensures.value c.deref-in-Check-2.ensures.value c.deref-in-Check-3.ensures.value in
+    written_by Check _ _ _ _ _ _ _ c.in-Check.is files (rw c.in-Check.is at c.requires.numbers) c.check.ensures.written
+
+pub returns-in-Recertify-clause-written : goal.returns-in-Recertify-clause-written
+returns-in-Recertify-clause-written g c =
+    let three = rw c.in-Recertify.is at (within_length (limits_of c.args.request.now.command) (map (λ w. w.items) c.args.contents.now) c.requires.within) in
+    let files = three_files (λ w. w.items) c.args.contents.now c.index-contents-0-in-Recertify.result c.index-contents-1-in-Recertify.result c.index-contents-2-in-Recertify.result c.deref-in-Recertify.result.now c.deref-in-Recertify-2.result.now c.deref-in-Recertify-3.result.now three c.index-contents-0-in-Recertify.is c.index-contents-1-in-Recertify.is c.index-contents-2-in-Recertify.is c.deref-in-Recertify.ensures.value c.deref-in-Recertify-2.ensures.value c.deref-in-Recertify-3.ensures.value in
+    written_by Recertify _ _ _ _ _ _ _ c.in-Recertify.is files (rw c.in-Recertify.is at c.requires.numbers) c.recertify.ensures.written

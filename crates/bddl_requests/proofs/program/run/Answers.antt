@@ -2,7 +2,7 @@ use Rattle.std.proofs.Common.{◌∙◌, [], Err, ap, arith, false, inl, inr, re
 use Rattle.request_parts.specs.Ends.{closed, refusal_told}
 use Rattle.request_parts.specs.declared.refusal.Close.{Close}
 use Rattle.request_parts.specs.declared.refusal.Stop.TheVariants.{Refused}
-use Rattle.bddl_requests.proofs.Answered.{carried_out, close_is_no_refusal, cut_answers, nothing_is_written, refusal_is_no_result, refusal_status, status_of_read, status_of_words, told_answers, told_or_cut, words_refused}
+use Rattle.bddl_requests.proofs.Answered.{carried_out, close_is_no_end, close_is_no_refusal, six, cut_answers, nothing_is_written, refusal_is_no_result, refusal_status, status_of_read, status_of_words, told_answers, told_or_cut, words_refused}
 use Rattle.bddl_requests.proofs.program.run.Goals as goal
 
 -- ---- carried out
@@ -29,7 +29,8 @@ returns-in-Ok-clause-words g c one =
 pub returns-in-Ok-clause-refused : goal.returns-in-Ok-clause-refused
 returns-in-Ok-clause-refused g c (inl one) = close_is_no_refusal c.in-Ok.close [] _ _ _ 1 (omega arith) refl (c.tell.ensures.told (closed c.in-Ok.close []) c.status.ensures.status c.note.ensures) one
 returns-in-Ok-clause-refused g c (inr (inl two)) = close_is_no_refusal c.in-Ok.close [] _ _ _ 2 (omega arith) refl (c.tell.ensures.told (closed c.in-Ok.close []) c.status.ensures.status c.note.ensures) two
-returns-in-Ok-clause-refused g c (inr (inr three)) = close_is_no_refusal c.in-Ok.close [] _ _ _ 3 (omega arith) refl (c.tell.ensures.told (closed c.in-Ok.close []) c.status.ensures.status c.note.ensures) three
+returns-in-Ok-clause-refused g c (inr (inr (inl three))) = close_is_no_refusal c.in-Ok.close [] _ _ _ 3 (omega arith) refl (c.tell.ensures.told (closed c.in-Ok.close []) c.status.ensures.status c.note.ensures) three
+returns-in-Ok-clause-refused g c (inr (inr (inr certificate))) = close_is_no_end c.in-Ok.close [] _ _ _ 6 six refl (c.tell.ensures.told (closed c.in-Ok.close []) c.status.ensures.status c.note.ensures) certificate
 
 pub returns-in-Ok-clause-read_fault : goal.returns-in-Ok-clause-read_fault
 returns-in-Ok-clause-read_fault g c three =

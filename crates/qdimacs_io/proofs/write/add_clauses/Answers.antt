@@ -1,7 +1,7 @@
 use Rattle.std.proofs.Common.{rules}
 use Rattle.bddl_model.specs.FormulaText.{clause_text}
 use Rattle.io_edge.proofs.Added.{added_more, added_stops}
-use Rattle.qdimacs_io.proofs.Lines.{flat_map_next}
+use Rattle.io_edge.proofs.Added.{flat_map_next}
 use Rattle.qdimacs_io.proofs.write.add_clauses.Goals as goal
 
 pub returns-in_err-add_clause-clause-text : goal.returns-in_err-add_clause-clause-text

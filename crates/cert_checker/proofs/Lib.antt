@@ -1,0 +1,14 @@
+pub mod Replies
+pub mod Benches
+pub mod Standing
+pub mod Entries
+pub mod Fine
+pub mod Order
+pub mod Steps
+pub mod Agreeing
+pub mod Exact
+pub mod Renaming
+pub mod LikeNodes
+pub mod Sharings
+pub mod Placings
+pub mod LeastPlaces

@@ -1,0 +1,13 @@
+pub mod Answering
+pub mod Ending
+pub mod Following
+pub mod HeaderReading
+pub mod LineReading
+pub mod Naming
+pub mod Numbering
+pub mod NumberReading
+pub mod OneAnswer
+pub mod Outcome
+pub mod Trees
+pub mod Words
+pub mod Writing

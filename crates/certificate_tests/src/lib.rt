@@ -1,0 +1,5 @@
+//! Tests of certificates below the requests.
+#![tactic(auto)]
+
+#[cfg(test)]
+mod texts;
