@@ -2,8 +2,10 @@
 #![tactic(auto)]
 
 use bddl_requests::run;
+use game_play::{FirstMove, Opponent, PcgPlayer, Typed};
 use io_edge::{FileShelf, StreamSink};
 use qbf_search::{Decider, PlainDecider};
+use std::alloc::AllocError;
 use std::io::ErrorKind;
 use std::process::ExitCode;
 use std::{env, io};
@@ -17,6 +19,25 @@ fn words(rt: &HostRuntime) -> io::Result<Vec<Vec<u8>>> {
     Ok(words)
 }
 
+// Answers the words. The opponents are, in this order, who types at standard input, one that makes the
+// first move, and one that makes moves which the number of the request decides.
+fn answer(rt: &HostRuntime, words: &[Vec<u8>]) -> Result<u8, AllocError> {
+    let mut opponents: Vec<Box<dyn Opponent>> = Vec::new(rt.alloc());
+    opponents.push(Box::new(rt.alloc(), Typed::over(rt.stdin()))?)?;
+    opponents.push(Box::new(rt.alloc(), FirstMove::new())?)?;
+    opponents.push(Box::new(rt.alloc(), PcgPlayer::new())?)?;
+    let mut decider: Box<dyn Decider> = Box::new(rt.alloc(), PlainDecider::new())?;
+    Ok(run(
+        rt.alloc(),
+        words,
+        &mut FileShelf::over(rt),
+        &mut StreamSink::over(rt.stdout()),
+        &mut StreamSink::over(rt.stderr()),
+        &mut opponents,
+        &mut decider,
+    ))
+}
+
 fn main(rt: HostRuntime) -> ExitCode {
     let words = match words(&rt) {
         Ok(words) => words,
@@ -24,20 +45,5 @@ fn main(rt: HostRuntime) -> ExitCode {
         // Some word is no text, and so there is no such request.
         Err(_) => Vec::new(rt.alloc()),
     };
-    let Ok(plain) = Box::new(rt.alloc(), PlainDecider::new()) else {
-        return ExitCode::from(5);
-    };
-    let mut decider: Box<dyn Decider> = plain;
-    let mut shelf = FileShelf::over(&rt);
-    let mut out = StreamSink::over(rt.stdout());
-    let mut note = StreamSink::over(rt.stderr());
-    let status = run(
-        rt.alloc(),
-        &words,
-        &mut shelf,
-        &mut out,
-        &mut note,
-        &mut decider,
-    );
-    ExitCode::from(status)
+    ExitCode::from(answer(&rt, &words).unwrap_or(5))
 }

@@ -46,3 +46,4 @@ pub mod PlacedNodes
 pub mod CertificateWins
 pub mod CertificateTexts
 pub mod BreadthFirst
+pub mod PlayEnds

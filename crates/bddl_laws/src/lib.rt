@@ -7,8 +7,8 @@
 //! forced from there; begin with `bddl_model/specs/Conditions.antt`. `circuits` says what the clauses of
 //! a circuit mean, `following` which values a tail's variables have, `texts` that a form is read from its
 //! text and that each text has one reading, `certificates` what a valid certificate gives and how one is
-//! made, and `bounds` how large a form gets and how many steps a search
-//! over it takes.
+//! made, `plays` how a play under one ends, and `bounds` how large a form gets and how many steps a
+//! search over it takes.
 #![tactic(auto)]
 
 mod bounds;
@@ -17,6 +17,7 @@ mod circuits;
 mod constraints;
 mod exactness;
 mod following;
+mod plays;
 mod texts;
 
 pub use bounds::{
@@ -36,4 +37,5 @@ pub use constraints::{
 };
 pub use exactness::{lines_of_play_are_played, served_claims_are_exact};
 pub use following::tail_values_follow;
+pub use plays::plays_reach_the_goal;
 pub use texts::{one_reading, text_is_read};

@@ -11,6 +11,9 @@ help_text =
     ++ (codes "                              tells whether a strategy wins\n"
     ++ (codes "bddl recert DOMAIN PROBLEM CERTIFICATE\n"
     ++ (codes "                              writes it with one node for each place\n"
+    ++ (codes "bddl play DOMAIN PROBLEM CERTIFICATE WHO START\n"
+    ++ (codes "                              plays a strategy against you (WHO 0), the first\n"
+    ++ (codes "                              move (1), or moves that START decides (2)\n"
     ++ (codes "bddl fmt-domain DOMAIN        writes the canonical text of a domain\n"
     ++ (codes "bddl fmt-problem PROBLEM      writes the canonical text of a problem\n"
     ++ (codes "bddl help, bddl --help        writes this text\n"
@@ -23,9 +26,11 @@ help_text =
     ++ (codes "4   a write failed\n"
     ++ (codes "5   memory ran out\n"
     ++ (codes "6   a certificate is refused\n"
+    ++ (codes "7   no reply came\n"
+    ++ (codes "8   a reply is none of the moves\n"
     ++ (codes "10  the game is won, or the formula is true\n"
     ++ (codes "20  the game is not won, or the formula is false\n"
-    ++ codes "30  the steps are spent\n")))))))))))))))))))))
+    ++ codes "30  the steps are spent\n"))))))))))))))))))))))))))
 
 abbrev pub version_text : List ℕ
 version_text = codes "bddl, rattle-kit-13f logic dac8208d650f15bf\n"

@@ -30,6 +30,7 @@ pub mod CertificateGraph
 pub mod Certificate
 pub mod CertificateText
 pub mod CertificateFaults
+pub mod Play
 pub mod Check
 pub mod Bits
 pub mod Layout

@@ -116,6 +116,15 @@ cert_note (cert.Stuck node) = node_note node (codes "white is stuck")
 cert_note (cert.RepliesDiffer node place) = node_note node (codes "replies differ at " ++ decimal place)
 cert_note cert.NoMemory = []
 
+-- ---- plays that end early
+
+abbrev pub gone_note : List ℕ
+gone_note = codes "opponent gone\n"
+
+-- a reply that is none of the moves that were shown, and how many there were
+abbrev pub reply_note : ℕ → ℕ → List ℕ
+reply_note number count = codes "reply " ++ (decimal number ++ (codes " of " ++ (decimal count ++ codes "\n")))
+
 -- ---- games that have a fault
 
 abbrev pub side_name : Side → List ℕ

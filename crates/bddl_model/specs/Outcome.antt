@@ -1,5 +1,5 @@
 -- What a command line comes to, by the files that are held. Each step goes on with what it found, or tells why it can't.
-use Rattle.std.specs.Prelude.{ℕ, ◌≡◌, ◌+◌, ◌<◌, ◌≤◌, ◌⊎◌, List, [], ◌∷◌, length, map, Bool, true, false, ◌||◌, ◌==◌, IsTrue, Option, None, Some, Result, Ok, Err}
+use Rattle.std.specs.Prelude.{ℕ, ◌≡◌, ◌+◌, ◌*◌, ◌<◌, ◌≤◌, ◌⊎◌, List, [], ◌∷◌, length, map, Bool, true, false, ◌||◌, ◌==◌, IsTrue, Option, None, Some, Result, Ok, Err}
 use Rattle.std.specs.FinMap.{get}
 use Rattle.bddl_model.specs.declared.texts.DomainText.{DomainText}
 use Rattle.bddl_model.specs.declared.texts.ProblemText.{ProblemText}
@@ -12,7 +12,7 @@ use Rattle.bddl_model.specs.declared.certificate.CertFault.{CertFault}
 use Rattle.bddl_model.specs.declared.formula.Quant.TheVariants as quant
 use Rattle.bddl_model.specs.declared.formula.Verdict.TheVariants as verdict
 use Rattle.bddl_model.specs.declared.command.Command.{Command}
-use Rattle.bddl_model.specs.declared.command.Command.TheVariants.{Compile, Solve, SolveFormula, Certify, Check, Recertify, FormatDomain, FormatProblem, Help, Version}
+use Rattle.bddl_model.specs.declared.command.Command.TheVariants.{Compile, Solve, SolveFormula, Certify, Check, Recertify, Play, FormatDomain, FormatProblem, Help, Version}
 use Rattle.bddl_model.specs.Files.{Files}
 use Rattle.bddl_model.specs.About.{help_text, version_text}
 use Rattle.bddl_model.specs.Notes as notes
@@ -32,6 +32,8 @@ use Rattle.bddl_model.specs.Bounds.{bound, game_bound, certify_bound}
 use Rattle.bddl_model.specs.Certificate.{cert_fault, valid, IsShared, IsSharedForm}
 use Rattle.bddl_model.specs.CertificateText.{ctext, CertText}
 use Rattle.bddl_model.specs.CertificateFaults.{CertFails}
+use Rattle.bddl_model.specs.declared.play.Played.TheVariants as ends
+use Rattle.bddl_model.specs.Play.{Told, plays, in_range, Reaches, ReachesOrGone}
 use Rattle.bddl_model.specs.Verdicts.{IsValue, win_text, no_win_text, spent_text, accepted_text, answer_text}
 use Rattle.bddl_model.specs.Request.{Request, limits_of, files_of}
 
@@ -160,25 +162,44 @@ CheckEnds s nodes end = (win s.game s.first s.board s.depth ≡ true) × Says ac
 abbrev pub RecertifyEnds : Setup → List Node → End → Type 0
 RecertifyEnds s nodes end = (shared : List Node) × IsSharedForm s nodes shared × CertText (ctext shared) shared × Says (ctext shared) end
 
+-- ---- play
+
+-- a play ends with its transcript, and the note tells why it ends early
+abbrev pub PlayTold : Told → End → Type 0
+PlayTold t end = elim t.end [
+  | ends.Reached plies ↦ Says t.text end
+  | ends.Gone ↦ end ≡ record { status = 7; out = t.text; note = notes.gone_note }
+  | ends.BadReply number count ↦ end ≡ record { status = 8; out = t.text; note = notes.reply_note number count }
+  | ends.WriteFault ↦ ⊥
+]
+
+-- what a play under a valid certificate ends as, by White's replies: against replies that are among the moves shown it reaches
+-- Black's goal within the depth, if there are enough of them
+pub record PlayEnds (replies : List ℕ) (s : Setup) (nodes : List Node) (end : End) : Type 0 where
+  pub told : PlayTold (plays s nodes replies) end
+  pub won : in_range s nodes replies ≡ true → ReachesOrGone s.depth (plays s nodes replies).end
+  pub reached : in_range s nodes replies ≡ true → s.depth ≤ 2 * length replies → Reaches s.depth (plays s nodes replies).end
+
 -- ---- the table of ends
 
--- what a command may end as, by the contents of its files and by its numbers
-abbrev pub ContentEnds : Command → List (List ℕ) → List ℕ → End → Type 0
-ContentEnds Compile (d ∷ p ∷ []) [] end = GameThen d p (CompileEnds d p) end
-ContentEnds Solve (d ∷ p ∷ []) (n ∷ []) end = GameThen d p (SolveEnds n) end
-ContentEnds SolveFormula (f ∷ []) (n ∷ []) end = FormulaThen f (FormulaSolveEnds n) end
-ContentEnds Certify (d ∷ p ∷ []) (n ∷ []) end = GameThen d p (CertifyEnds n) end
-ContentEnds Check (d ∷ p ∷ c ∷ []) [] end = GameThen d p (AcceptedThen c CheckEnds) end
-ContentEnds Recertify (d ∷ p ∷ c ∷ []) [] end = GameThen d p (AcceptedThen c RecertifyEnds) end
-ContentEnds FormatDomain (d ∷ []) [] end = DomainThen d (λ tree. Says (domain_text tree)) end
-ContentEnds FormatProblem (p ∷ []) [] end = ProblemThen p (λ tree. Says (problem_text tree)) end
-ContentEnds Help [] [] end = Says help_text end
-ContentEnds Version [] [] end = Says version_text end
-ContentEnds _ _ _ end = ⊥
+-- what a command may end as, by the contents of its files, by its numbers, and by White's replies
+abbrev pub ContentEnds : Command → List (List ℕ) → List ℕ → List ℕ → End → Type 0
+ContentEnds Compile (d ∷ p ∷ []) [] replies end = GameThen d p (CompileEnds d p) end
+ContentEnds Solve (d ∷ p ∷ []) (n ∷ []) replies end = GameThen d p (SolveEnds n) end
+ContentEnds SolveFormula (f ∷ []) (n ∷ []) replies end = FormulaThen f (FormulaSolveEnds n) end
+ContentEnds Certify (d ∷ p ∷ []) (n ∷ []) replies end = GameThen d p (CertifyEnds n) end
+ContentEnds Check (d ∷ p ∷ c ∷ []) [] replies end = GameThen d p (AcceptedThen c CheckEnds) end
+ContentEnds Recertify (d ∷ p ∷ c ∷ []) [] replies end = GameThen d p (AcceptedThen c RecertifyEnds) end
+ContentEnds Play (d ∷ p ∷ c ∷ []) (who ∷ number ∷ []) replies end = GameThen d p (AcceptedThen c (PlayEnds replies)) end
+ContentEnds FormatDomain (d ∷ []) [] replies end = DomainThen d (λ tree. Says (domain_text tree)) end
+ContentEnds FormatProblem (p ∷ []) [] replies end = ProblemThen p (λ tree. Says (problem_text tree)) end
+ContentEnds Help [] [] replies end = Says help_text end
+ContentEnds Version [] [] replies end = Says version_text end
+ContentEnds _ _ _ replies end = ⊥
 
 -- the status is one that tells that the request was carried out
 abbrev pub is_carried_out : ℕ → Bool
-is_carried_out status = status == 0 || (status == 10 || (status == 20 || status == 30))
+is_carried_out status = status == 0 || (status == 7 || (status == 8 || (status == 10 || (status == 20 || status == 30))))
 
 -- the texts state a game and a certificate that is valid for it
 pub record Accepts (d p c : List ℕ) (s : Setup) (nodes : List Node) : Type 0 where
@@ -189,18 +210,19 @@ pub record Accepts (d p c : List ℕ) (s : Setup) (nodes : List Node) : Type 0 w
   pub valid : valid s nodes ≡ true
 
 -- what a command that is carried out ends as
-abbrev pub Results : Command → List (List ℕ) → List ℕ → End → Type 0
-Results Compile (d ∷ p ∷ []) [] end = (s : Setup) × CompileEnds d p s end
-Results Solve (d ∷ p ∷ []) (n ∷ []) end = (dom : DomainText) × (prob : ProblemText) × (s : Setup) × States d p dom prob (Ok s) × SolveEnds n s end
-Results SolveFormula (f ∷ []) (n ∷ []) end = (variables clauses : ℕ) × (form : Formula) × Qdimacs f variables clauses form × FormulaSolveEnds n variables clauses form end
-Results Certify (d ∷ p ∷ []) (n ∷ []) end = (dom : DomainText) × (prob : ProblemText) × (s : Setup) × States d p dom prob (Ok s) × CertifyEnds n s end
-Results Check (d ∷ p ∷ c ∷ []) [] end = (s : Setup) × (nodes : List Node) × Accepts d p c s nodes × CheckEnds s nodes end
-Results Recertify (d ∷ p ∷ c ∷ []) [] end = (s : Setup) × (nodes : List Node) × Accepts d p c s nodes × RecertifyEnds s nodes end
-Results FormatDomain (d ∷ []) [] end = (tree : DomainText) × Reads domain d tree × Says (domain_text tree) end
-Results FormatProblem (p ∷ []) [] end = (tree : ProblemText) × Reads problem p tree × Says (problem_text tree) end
-Results Help [] [] end = Says help_text end
-Results Version [] [] end = Says version_text end
-Results _ _ _ end = ⊥
+abbrev pub Results : Command → List (List ℕ) → List ℕ → List ℕ → End → Type 0
+Results Compile (d ∷ p ∷ []) [] replies end = (s : Setup) × CompileEnds d p s end
+Results Solve (d ∷ p ∷ []) (n ∷ []) replies end = (dom : DomainText) × (prob : ProblemText) × (s : Setup) × States d p dom prob (Ok s) × SolveEnds n s end
+Results SolveFormula (f ∷ []) (n ∷ []) replies end = (variables clauses : ℕ) × (form : Formula) × Qdimacs f variables clauses form × FormulaSolveEnds n variables clauses form end
+Results Certify (d ∷ p ∷ []) (n ∷ []) replies end = (dom : DomainText) × (prob : ProblemText) × (s : Setup) × States d p dom prob (Ok s) × CertifyEnds n s end
+Results Check (d ∷ p ∷ c ∷ []) [] replies end = (s : Setup) × (nodes : List Node) × Accepts d p c s nodes × CheckEnds s nodes end
+Results Recertify (d ∷ p ∷ c ∷ []) [] replies end = (s : Setup) × (nodes : List Node) × Accepts d p c s nodes × RecertifyEnds s nodes end
+Results Play (d ∷ p ∷ c ∷ []) (who ∷ number ∷ []) replies end = (s : Setup) × (nodes : List Node) × Accepts d p c s nodes × PlayEnds replies s nodes end
+Results FormatDomain (d ∷ []) [] replies end = (tree : DomainText) × Reads domain d tree × Says (domain_text tree) end
+Results FormatProblem (p ∷ []) [] replies end = (tree : ProblemText) × Reads problem p tree × Says (problem_text tree) end
+Results Help [] [] replies end = Says help_text end
+Results Version [] [] replies end = Says version_text end
+Results _ _ _ replies end = ⊥
 
 -- ---- files
 
@@ -236,14 +258,14 @@ Finds None names found = length found ≡ length names
 Finds (Some files) names found = found ≡ map (get files) names
 
 -- what a request may end as, by what stands under the names of its files
-abbrev pub RequestEnds : Bool → Option Request → List (Option (List ℕ)) → End → Type 0
-RequestEnds faulty None found end = end ≡ refused 1 notes.no_such_request
-RequestEnds faulty (Some r) found end = FilesThen faulty 2 (limits_of r.command) found (λ contents. ContentEnds r.command contents r.numbers) end
+abbrev pub RequestEnds : Bool → Option Request → List ℕ → List (Option (List ℕ)) → End → Type 0
+RequestEnds faulty None replies found end = end ≡ refused 1 notes.no_such_request
+RequestEnds faulty (Some r) replies found end = FilesThen faulty 2 (limits_of r.command) found (λ contents. ContentEnds r.command contents r.numbers replies) end
 
-abbrev pub MayEnd : Bool → Option Files → Option Request → End → Type 0
-MayEnd faulty held request end = (found : List (Option (List ℕ))) × Finds held (files_of request) found × RequestEnds faulty request found end
+abbrev pub MayEnd : Bool → Option Files → Option Request → List ℕ → End → Type 0
+MayEnd faulty held request replies end = (found : List (Option (List ℕ))) × Finds held (files_of request) found × RequestEnds faulty request replies found end
 
 -- a request that is carried out ends as this: the result of the contents of its files
-abbrev pub IsResult : Option Files → Option Request → End → Type 0
-IsResult held None end = ⊥
-IsResult held (Some r) end = (contents : List (List ℕ)) × Finds held r.files (map Some contents) × Results r.command contents r.numbers end
+abbrev pub IsResult : Option Files → Option Request → List ℕ → End → Type 0
+IsResult held None replies end = ⊥
+IsResult held (Some r) replies end = (contents : List (List ℕ)) × Finds held r.files (map Some contents) × Results r.command contents r.numbers replies end

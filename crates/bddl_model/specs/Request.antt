@@ -1,10 +1,10 @@
 -- The requests of a command line: a command, the files that it names, and its numbers.
-use Rattle.std.specs.Prelude.{ℕ, ◌+◌, ◌^◌, ◌==◌, ◌&&◌, nat_lt, Bool, List, [], ◌∷◌, length, take, drop, Option, None, Some, codes, bytes_eq, if◌then◌else◌}
+use Rattle.std.specs.Prelude.{ℕ, ◌+◌, ◌^◌, ◌==◌, ◌&&◌, nat_lt, Bool, true, List, [], ◌∷◌, length, take, drop, Option, None, Some, codes, bytes_eq, if◌then◌else◌}
 use Rattle.std.specs.Fmt.{decimal}
 use Rattle.std.specs.List.{list_any}
 use Rattle.bddl_model.specs.Bytes.{digits_from}
 use Rattle.bddl_model.specs.declared.command.Command.{Command}
-use Rattle.bddl_model.specs.declared.command.Command.TheVariants.{Compile, Solve, SolveFormula, Certify, Check, Recertify, FormatDomain, FormatProblem, Help, Version}
+use Rattle.bddl_model.specs.declared.command.Command.TheVariants.{Compile, Solve, SolveFormula, Certify, Check, Recertify, Play, FormatDomain, FormatProblem, Help, Version}
 
 -- ---- the table of commands
 
@@ -16,6 +16,7 @@ names_of SolveFormula = codes "qsolve" ∷ []
 names_of Certify = codes "certify" ∷ []
 names_of Check = codes "check" ∷ []
 names_of Recertify = codes "recert" ∷ []
+names_of Play = codes "play" ∷ []
 names_of FormatDomain = codes "fmt-domain" ∷ []
 names_of FormatProblem = codes "fmt-problem" ∷ []
 names_of Help = codes "help" ∷ codes "--help" ∷ []
@@ -41,6 +42,7 @@ limits_of SolveFormula = formula_limit ∷ []
 limits_of Certify = game_limit ∷ game_limit ∷ []
 limits_of Check = game_limit ∷ game_limit ∷ certificate_limit ∷ []
 limits_of Recertify = game_limit ∷ game_limit ∷ certificate_limit ∷ []
+limits_of Play = game_limit ∷ game_limit ∷ certificate_limit ∷ []
 limits_of FormatDomain = game_limit ∷ []
 limits_of FormatProblem = game_limit ∷ []
 limits_of Help = []
@@ -54,13 +56,14 @@ numbers_of SolveFormula = 1
 numbers_of Certify = 1
 numbers_of Check = 0
 numbers_of Recertify = 0
+numbers_of Play = 2
 numbers_of FormatDomain = 0
 numbers_of FormatProblem = 0
 numbers_of Help = 0
 numbers_of Version = 0
 
 abbrev pub commands : List Command
-commands = Compile ∷ Solve ∷ SolveFormula ∷ Certify ∷ Check ∷ Recertify ∷ FormatDomain ∷ FormatProblem ∷ Help ∷ Version ∷ []
+commands = Compile ∷ Solve ∷ SolveFormula ∷ Certify ∷ Check ∷ Recertify ∷ Play ∷ FormatDomain ∷ FormatProblem ∷ Help ∷ Version ∷ []
 
 abbrev pub is_named : List ℕ → Command → Bool
 is_named word c = list_any (bytes_eq word) (names_of c)
@@ -111,9 +114,31 @@ request_with (Some c) words =
     if takes c (length words) then with_numbers c (take (length (limits_of c)) words) (numbers_in_words (drop (length (limits_of c)) words))
     else None
 
-abbrev pub request_of : List (List ℕ) → Option Request
-request_of [] = None
-request_of (word ∷ words) = request_with (first_named word commands) words
+abbrev pub request_in : List (List ℕ) → Option Request
+request_in [] = None
+request_in (word ∷ words) = request_with (first_named word commands) words
+
+-- the opponent that a play names by its first number; they count from 0
+abbrev pub opponent_in : Command → List ℕ → Option ℕ
+opponent_in Play (who ∷ numbers) = Some who
+opponent_in c numbers = None
+
+abbrev pub opponent_of : Option Request → Option ℕ
+opponent_of None = None
+opponent_of (Some r) = opponent_in r.command r.numbers
+
+-- it is one of so many, if one is named
+abbrev pub is_there : ℕ → Option ℕ → Bool
+is_there players None = true
+is_there players (Some who) = nat_lt who players
+
+abbrev pub if_opponent : ℕ → Option Request → Option Request
+if_opponent players None = None
+if_opponent players (Some r) = if is_there players (opponent_in r.command r.numbers) then Some r else None
+
+-- where there are so many opponents
+abbrev pub request_of : ℕ → List (List ℕ) → Option Request
+request_of players words = if_opponent players (request_in words)
 
 -- the files that a request names
 abbrev pub files_of : Option Request → List (List ℕ)

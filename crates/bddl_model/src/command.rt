@@ -7,6 +7,7 @@ pub enum Command {
     Certify,
     Check,
     Recertify,
+    Play,
     FormatDomain,
     FormatProblem,
     Help,

@@ -13,6 +13,7 @@ mod formula;
 mod game;
 mod list;
 mod memory;
+mod play;
 mod steps;
 mod texts;
 mod tokens;
@@ -28,6 +29,7 @@ pub use formula::{Block, Bound, Kind, Lit, LitList, Quant, Span, Var, Verdict};
 pub use game::{Atom, GREATEST_SIDE, Mark, Move, PlyBits, Rect, Side, Term, Test};
 pub use list::Items;
 pub use memory::NoMemory;
+pub use play::Played;
 pub use steps::Steps;
 pub use texts::{
     ActionList, ActionText, AtomList, AtomText, DomainText, InitAtom, InitList, LineList, NameText,

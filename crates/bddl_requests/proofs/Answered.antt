@@ -54,19 +54,19 @@ one_left [] n e h = absurd (omega arith)
 one_left (m ∷ []) n e h = ap (λ k. k ∷ []) (sym h)
 one_left (m ∷ k ∷ ns) n e h = absurd (omega arith)
 
-module _ (known asked : Command) (contents cs : List (List ℕ)) (numbers : List ℕ) (old new : Option (List ℕ)) (r : Result Close (Stop Content)) (e : asked ≡ known) (f : contents ≡ cs) where
-  written_with : (ns : List ℕ) → numbers ≡ ns → Writes content_told (ContentEnds known cs ns) old new r → Writes content_told (ContentEnds asked contents numbers) old new r
+module _ (known asked : Command) (contents cs : List (List ℕ)) (numbers replies : List ℕ) (old new : Option (List ℕ)) (r : Result Close (Stop Content)) (e : asked ≡ known) (f : contents ≡ cs) where
+  pub written_with : (ns : List ℕ) → numbers ≡ ns → Writes content_told (ContentEnds known cs ns replies) old new r → Writes content_told (ContentEnds asked contents numbers replies) old new r
   written_with ns g h =
-      subst (λ k. Writes content_told (ContentEnds k contents numbers) old new r) (sym e)
-      (subst (λ cs. Writes content_told (ContentEnds known cs numbers) old new r) (sym f)
-      (subst (λ ns. Writes content_told (ContentEnds known cs ns) old new r) (sym g) h))
+      subst (λ k. Writes content_told (ContentEnds k contents numbers replies) old new r) (sym e)
+      (subst (λ cs. Writes content_told (ContentEnds known cs numbers replies) old new r) (sym f)
+      (subst (λ ns. Writes content_told (ContentEnds known cs ns replies) old new r) (sym g) h))
 
   -- a command without numbers
-  pub written_by : length numbers ≡ 0 → Writes content_told (ContentEnds known cs []) old new r → Writes content_told (ContentEnds asked contents numbers) old new r
+  pub written_by : length numbers ≡ 0 → Writes content_told (ContentEnds known cs [] replies) old new r → Writes content_told (ContentEnds asked contents numbers replies) old new r
   written_by g = written_with [] (nothing_left numbers g)
 
   -- a command with one
-  pub written_by_number : (n : ℕ) → length numbers ≡ 1 → n ≡ get_or numbers 0 n → Writes content_told (ContentEnds known cs (n ∷ [])) old new r → Writes content_told (ContentEnds asked contents numbers) old new r
+  pub written_by_number : (n : ℕ) → length numbers ≡ 1 → n ≡ get_or numbers 0 n → Writes content_told (ContentEnds known cs (n ∷ []) replies) old new r → Writes content_told (ContentEnds asked contents numbers replies) old new r
   written_by_number n g h = written_with (n ∷ []) (one_left numbers n g h)
 
 -- ---- from there to the request
@@ -81,28 +81,28 @@ content_written ends more old new (stop.Refused c) wider h = (h.0, wider (conten
 content_written ends more old new stop.WriteFault wider h = cut_in ends more old new wider h
 content_written ends more old new stop.NoMemory wider h = cut_in ends more old new wider h
 
-module _ (faulty : Bool) (held : Option Files) (asked : Option Request) (r : Request) (is : asked ≡ Some r) (limits : List (Option ℕ)) (same : limits ≡ limits_of r.command) where
+module _ (faulty : Bool) (held : Option Files) (asked : Option Request) (r : Request) (is : asked ≡ Some r) (limits : List (Option ℕ)) (same : limits ≡ limits_of r.command) (replies : List ℕ) where
   -- what a request may end as, by its files
-  may_end : (found : List (Option (List ℕ))) → Finds held r.files found → (end : End) → FilesThen faulty 2 limits found (λ contents. ContentEnds r.command contents r.numbers) end → MayEnd faulty held asked end
-  may_end found finds end h = subst (λ q. MayEnd faulty held q end) (sym is) (found, finds, subst (λ ls. FilesThen faulty 2 ls found (λ contents. ContentEnds r.command contents r.numbers) end) same h)
+  may_end : (found : List (Option (List ℕ))) → Finds held r.files found → (end : End) → FilesThen faulty 2 limits found (λ contents. ContentEnds r.command contents r.numbers replies) end → MayEnd faulty held asked replies end
+  may_end found finds end h = subst (λ q. MayEnd faulty held q replies end) (sym is) (found, finds, subst (λ ls. FilesThen faulty 2 ls found (λ contents. ContentEnds r.command contents r.numbers replies) end) same h)
 
   -- a file that was not read
-  pub request_unread : (s : Stop Refusal) (old : Option (List ℕ)) → (found : List (Option (List ℕ))) × Finds held r.files found × StopsAt refusal_told (FilesThen faulty 2 limits found Nothing) s → Writes refusal_told (MayEnd faulty held asked) old old (Err s)
+  pub request_unread : (s : Stop Refusal) (old : Option (List ℕ)) → (found : List (Option (List ℕ))) × Finds held r.files found × StopsAt refusal_told (FilesThen faulty 2 limits found Nothing) s → Writes refusal_told (MayEnd faulty held asked replies) old old (Err s)
   request_unread s old (found, finds, h) =
-      stops_writing refusal_told (MayEnd faulty held asked) s old
-      (stops_in refusal_told (FilesThen faulty 2 limits found Nothing) (MayEnd faulty held asked) s
-      (λ end e. may_end found finds end (files_then faulty 2 limits found (λ contents. ContentEnds r.command contents r.numbers) end e)) h)
+      stops_writing refusal_told (MayEnd faulty held asked replies) s old
+      (stops_in refusal_told (FilesThen faulty 2 limits found Nothing) (MayEnd faulty held asked replies) s
+      (λ end e. may_end found finds end (files_then faulty 2 limits found (λ contents. ContentEnds r.command contents r.numbers replies) end e)) h)
 
   -- all files were read
   module _ (contents : List (List ℕ)) (read : (found : List (Option (List ℕ))) × Finds held r.files found × ((found ≡ map Some contents) × AreWithin limits contents)) (old new : Option (List ℕ)) where
-    goes_on : (end : End) → ContentEnds r.command contents r.numbers end → MayEnd faulty held asked end
-    goes_on end e = may_end read.0 read.1 end (subst (λ fs. FilesThen faulty 2 limits fs (λ cs. ContentEnds r.command cs r.numbers) end) (sym read.2.0) (files_go_on faulty 2 limits contents (λ cs. ContentEnds r.command cs r.numbers) end read.2.1 e))
+    goes_on : (end : End) → ContentEnds r.command contents r.numbers replies end → MayEnd faulty held asked replies end
+    goes_on end e = may_end read.0 read.1 end (subst (λ fs. FilesThen faulty 2 limits fs (λ cs. ContentEnds r.command cs r.numbers replies) end) (sym read.2.0) (files_go_on faulty 2 limits contents (λ cs. ContentEnds r.command cs r.numbers replies) end read.2.1 e))
 
-    pub request_done : (c : Close) → Writes content_told (ContentEnds r.command contents r.numbers) old new (Ok c) → Writes refusal_told (MayEnd faulty held asked) old new (Ok c)
+    pub request_done : (c : Close) → Writes content_told (ContentEnds r.command contents r.numbers replies) old new (Ok c) → Writes refusal_told (MayEnd faulty held asked replies) old new (Ok c)
     request_done c (text, e, w) = (text, goes_on (closed c text) e, w)
 
-    pub request_stopped : (s : Stop Content) → Writes content_told (ContentEnds r.command contents r.numbers) old new (Err s) → Writes refusal_told (MayEnd faulty held asked) old new (Err (stop_of_content s))
-    request_stopped s h = content_written (ContentEnds r.command contents r.numbers) (MayEnd faulty held asked) old new s goes_on h
+    pub request_stopped : (s : Stop Content) → Writes content_told (ContentEnds r.command contents r.numbers replies) old new (Err s) → Writes refusal_told (MayEnd faulty held asked replies) old new (Err (stop_of_content s))
+    request_stopped s h = content_written (ContentEnds r.command contents r.numbers replies) (MayEnd faulty held asked replies) old new s goes_on h
 
 pub no_write : (T : Type 0) (s : Stop Refusal) (n : ℕ) → IsFileStop s → Counts n n (is_write_fault {T = T} (Err s))
 no_write T (stop.Refused r) n h = refl
@@ -110,9 +110,9 @@ no_write T stop.WriteFault n h = absurd h
 no_write T stop.NoMemory n h = refl
 
 -- words that are no request
-pub no_request : (faulty : Bool) (held : Option Files) (old : Option (List ℕ)) → Writes refusal_told (MayEnd faulty held None) old old (Err (stop.Refused refusal.NoRequest))
-no_request faulty None old = (refl, ([], refl, refl))
-no_request faulty (Some files) old = (refl, ([], refl, refl))
+pub no_request : (faulty : Bool) (held : Option Files) (replies : List ℕ) (old : Option (List ℕ)) → Writes refusal_told (MayEnd faulty held None replies) old old (Err (stop.Refused refusal.NoRequest))
+no_request faulty None replies old = (refl, ([], refl, refl))
+no_request faulty (Some files) replies old = (refl, ([], refl, refl))
 
 -- ---- the whole call
 
@@ -188,7 +188,7 @@ words_refused result s r h is (inl e) =
 words_refused result s r h is (inr e) = absurd (let err = sym h ∙ e in cc)
 
 -- what a status other than 4 and 5 says of the telling
-told_status : (end : End) (old new : Option (List ℕ)) (status n : ℕ) → NotCut n → Tells end old new status → status ≡ n → (end.status ≡ n) × (new ≡ with_bytes old end.note)
+pub told_status : (end : End) (old new : Option (List ℕ)) (status n : ℕ) → NotCut n → Tells end old new status → status ≡ n → (end.status ≡ n) × (new ≡ with_bytes old end.note)
 told_status end old new status n whole (inl (is, told)) e = (sym is ∙ e, told)
 told_status end old new status n whole (inr (inl four, front)) e = absurd (whole.0 (sym e ∙ four))
 told_status end old new status n whole (inr (inr five, front)) e = absurd (whole.1 (sym e ∙ five))
@@ -227,13 +227,15 @@ close_carries close.No = refl
 close_carries close.Spent = refl
 close_carries close.NoStrategy = refl
 close_carries close.NotFound = refl
+close_carries close.Gone = refl
+close_carries (close.BadReply number count) = refl
 
-pub carried_out : (held : Option Files) (asked : Option Request) (c : Close) (old new : Option (List ℕ)) (noted now : Option (List ℕ)) (status : ℕ) → (written : Writes refusal_told (MayEnd true held asked) old new (Ok c)) → Tells (closed c written.0) noted now status → is_carried_out status ≡ true
-    → (end : End) × IsResult held asked end × (status ≡ end.status) × (new ≡ with_bytes old end.out) × (now ≡ with_bytes noted end.note)
-carried_out held asked c old new noted now status (text, e, w) (inl (is, told)) carried =
-    (closed c text, result_of_request held asked (closed c text) (close_carries c) e, is, w, told)
-carried_out held asked c old new noted now status (text, e, w) (inr (inl four, front)) carried = absurd (no_carried status 4 carried four refl)
-carried_out held asked c old new noted now status (text, e, w) (inr (inr five, front)) carried = absurd (no_carried status 5 carried five refl)
+pub carried_out : (held : Option Files) (asked : Option Request) (replies : List ℕ) (c : Close) (old new : Option (List ℕ)) (noted now : Option (List ℕ)) (status : ℕ) → (written : Writes refusal_told (MayEnd true held asked replies) old new (Ok c)) → Tells (closed c written.0) noted now status → is_carried_out status ≡ true
+    → (end : End) × IsResult held asked replies end × (status ≡ end.status) × (new ≡ with_bytes old end.out) × (now ≡ with_bytes noted end.note)
+carried_out held asked replies c old new noted now status (text, e, w) (inl (is, told)) carried =
+    (closed c text, result_of_request held asked replies (closed c text) (close_carries c) e, is, w, told)
+carried_out held asked replies c old new noted now status (text, e, w) (inr (inl four, front)) carried = absurd (no_carried status 4 carried four refl)
+carried_out held asked replies c old new noted now status (text, e, w) (inr (inr five, front)) carried = absurd (no_carried status 5 carried five refl)
 
 -- its status is no other one
 pub close_is_no_end : {X : Type 0} (c : Close) (text : List ℕ) (old new : Option (List ℕ)) (status n : ℕ) → NotCut n → is_carried_out n ≡ false → Tells (closed c text) old new status → status ≡ n → X

@@ -3,3 +3,6 @@ mod Built
 mod Answered
 pub mod Deciding
 pub mod Certifying
+pub mod Transcripts
+pub mod Seats
+pub mod Early

@@ -8,6 +8,7 @@
 mod certify;
 mod check;
 mod compile;
+mod playing;
 mod program;
 mod recertify;
 mod solve;

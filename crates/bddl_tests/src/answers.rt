@@ -2,6 +2,7 @@
 use crate::reading_back::assert_reads_back;
 use bddl_model::NoMemory;
 use bddl_requests::run;
+use game_play::Opponent;
 use io_edge::{MemoryShelf, MemorySink, SteadySink};
 use qbf_search::{Decider, PlainDecider};
 use std::alloc::{AllocError, Global};
@@ -47,6 +48,17 @@ pub fn answer_of(alloc: Global, words: &[&[u8]], shelf: &mut MemoryShelf) -> Res
     answer_under(alloc, words, shelf, &mut plain_decider(alloc)?)
 }
 
+/// The same against these opponents.
+pub fn answer_against(
+    alloc: Global,
+    words: &[&[u8]],
+    shelf: &mut MemoryShelf,
+    opponents: &mut Vec<Box<dyn Opponent>>,
+) -> Result<Answer, Fail> {
+    let mut decider = plain_decider(alloc)?;
+    answer_with(alloc, words, shelf, opponents, &mut decider)
+}
+
 /// The same under another decider.
 pub fn answer_under(
     alloc: Global,
@@ -54,10 +66,23 @@ pub fn answer_under(
     shelf: &mut MemoryShelf,
     decider: &mut Box<dyn Decider>,
 ) -> Result<Answer, Fail> {
+    let mut nobody = Vec::new(alloc);
+    answer_with(alloc, words, shelf, &mut nobody, decider)
+}
+
+fn answer_with(
+    alloc: Global,
+    words: &[&[u8]],
+    shelf: &mut MemoryShelf,
+    opponents: &mut Vec<Box<dyn Opponent>>,
+    decider: &mut Box<dyn Decider>,
+) -> Result<Answer, Fail> {
     let words = words_of(alloc, words)?;
     let mut out = SteadySink::new(alloc);
     let mut note = SteadySink::new(alloc);
-    let status = run(alloc, &words, shelf, &mut out, &mut note, decider);
+    let status = run(
+        alloc, &words, shelf, &mut out, &mut note, opponents, decider,
+    );
     Ok(Answer {
         status,
         out: out.bytes().to_vec(alloc)?,
@@ -145,7 +170,15 @@ pub fn assert_out_fails(
     let mut note = SteadySink::new(alloc);
     let words = words_of(alloc, words)?;
     let mut decider = plain_decider(alloc)?;
-    let status = run(alloc, &words, &mut shelf, &mut out, &mut note, &mut decider);
+    let status = run(
+        alloc,
+        &words,
+        &mut shelf,
+        &mut out,
+        &mut note,
+        &mut Vec::new(alloc),
+        &mut decider,
+    );
     assert_eq!(rt; status, 4);
     assert_eq!(rt;
         Some(out.bytes()),
@@ -169,7 +202,15 @@ pub fn assert_note_fails(
     note.fail_at(1, kept)?;
     let words = words_of(alloc, words)?;
     let mut decider = plain_decider(alloc)?;
-    let status = run(alloc, &words, &mut shelf, &mut out, &mut note, &mut decider);
+    let status = run(
+        alloc,
+        &words,
+        &mut shelf,
+        &mut out,
+        &mut note,
+        &mut Vec::new(alloc),
+        &mut decider,
+    );
     assert_eq!(rt; status, 4);
     assert_eq!(rt;
         Some(note.bytes()),

@@ -6,14 +6,15 @@ use std::process::Abort;
 use std::str;
 use std::test::Fail;
 
-// Two stones in a row or in a column, within three plies.
-const PAIRS: &str =
+/// Two stones in a row or in a column, within three plies.
+pub const PAIRS: &str =
     "#boardsize 2 2 #init () #depth 3 #blackgoals (black(?x,?y) black(?x+1,?y)) (black(?x,?y) black(?x,?y+1)) #whitegoals";
 
-// A strategy for it as a tree, and with a node for each place.
-const TREE: &str =
+/// A strategy for it as a tree.
+pub const TREE: &str =
     "bddlcert 1 8\nb 0 1 1\nw 3 0 2 1 0 1 2 0 2 2\nb 0 1 2\ng\nb 0 2 1\ng\nb 0 2 1\ng\n";
 
+// The same with a node for each place.
 const SHARED: &str =
     "bddlcert 2 8\nb 0 1 1 1\nw 3 0 2 1 2 0 1 2 3 0 2 2 4\nb 0 1 2 5\nb 0 2 1 6\nb 0 2 1 7\ng\ng\ng\n";
 

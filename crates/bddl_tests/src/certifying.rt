@@ -1,20 +1,18 @@
 // The request `certify`: strategies that are found, and that `check` accepts them.
 use crate::answers::{Answer, answer_of, assert_answer, shelf_of};
+use crate::certificates::PAIRS;
 use crate::domains::OCCUPY;
 use crate::games::FIVE;
+use crate::plays::assert_always_reached;
 use std::alloc::Global;
 use std::process::Abort;
 use std::test::Fail;
 
-// Two stones in a row or in a column, within three plies.
-const PAIRS: &str =
-    "#boardsize 2 2 #init () #depth 3 #blackgoals (black(?x,?y) black(?x+1,?y)) (black(?x,?y) black(?x,?y+1)) #whitegoals";
-
 // The bound of the steps of a certificate for the pairs.
 const BOUND: &[u8] = b"23300014122";
 
-/// A strategy for the game is found where it is won, is accepted, and is its own shared form. Where it
-/// isn't won, this is noted.
+/// A strategy for the game is found where it is won, is accepted, is its own shared form, and reaches the
+/// goal against every list of replies. Where it isn't won, this is noted.
 pub fn assert_certified(
     rt: &impl Abort,
     alloc: Global,
@@ -34,7 +32,8 @@ pub fn assert_certified(
     let words: [&[u8]; 4] = [b"check", b"d", b"p", b"c"];
     assert_answer(rt, alloc, &words, &mut shelf, 0, b"accepted\n", b"")?;
     let words: [&[u8]; 4] = [b"recert", b"d", b"p", b"c"];
-    assert_answer(rt, alloc, &words, &mut shelf, 0, &out, b"")
+    assert_answer(rt, alloc, &words, &mut shelf, 0, &out, b"")?;
+    assert_always_reached(rt, alloc, &mut shelf)
 }
 
 #[test]

@@ -147,6 +147,7 @@ fn a_failing_third_write_leaves_two_pieces_and_a_front(rt: HostRuntime) -> Resul
             &mut shelf,
             &mut out,
             &mut note,
+            &mut Vec::new(rt.alloc()),
             &mut decider,
         );
         assert!(rt; status == 4 && note.bytes().is_empty());

@@ -24,6 +24,10 @@ mod formula;
 #[cfg(test)]
 mod games;
 #[cfg(test)]
+mod opponents;
+#[cfg(test)]
+mod plays;
+#[cfg(test)]
 mod positions;
 #[cfg(test)]
 mod reading_back;

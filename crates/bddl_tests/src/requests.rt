@@ -45,7 +45,7 @@ fn boards_of_all_sizes_compile(rt: HostRuntime) -> Result<(), Fail> {
 
 #[test]
 fn other_words_are_no_request(rt: HostRuntime) -> Result<(), Fail> {
-    let cases: [&[&[u8]]; 21] = [
+    let cases: [&[&[u8]]; 25] = [
         &[],
         &[b"resolve"],
         &[b"compile"],
@@ -63,6 +63,10 @@ fn other_words_are_no_request(rt: HostRuntime) -> Result<(), Fail> {
         &[b"qsolve", b"d"],
         &[b"qsolve", b"d", b""],
         &[b"qsolve", b"d", b"1 "],
+        &[b"play", b"d", b"p", b"c"],
+        &[b"play", b"d", b"p", b"c", b"0"],
+        &[b"play", b"d", b"p", b"c", b"0", b"0"],
+        &[b"play", b"d", b"p", b"c", b"00", b"0"],
         &[b"help", b"d"],
         &[b"--version", b"d"],
         &[b"-help"],

@@ -34,10 +34,14 @@ close_status close.No = 20
 close_status close.Spent = 30
 close_status close.NoStrategy = 20
 close_status close.NotFound = 30
+close_status close.Gone = 7
+close_status (close.BadReply number count) = 8
 
 abbrev pub close_note : Close → List ℕ
 close_note close.NoStrategy = no_win_text
 close_note close.NotFound = spent_text
+close_note close.Gone = notes.gone_note
+close_note (close.BadReply number count) = notes.reply_note number count
 close_note c = []
 
 -- how it ends that wrote this text

@@ -22,6 +22,9 @@ pub fn help<K: Sink>(out: &mut K) -> Result<Close, Stop<Content>>
         \x20                             tells whether a strategy wins\n\
         bddl recert DOMAIN PROBLEM CERTIFICATE\n\
         \x20                             writes it with one node for each place\n\
+        bddl play DOMAIN PROBLEM CERTIFICATE WHO START\n\
+        \x20                             plays a strategy against you (WHO 0), the first\n\
+        \x20                             move (1), or moves that START decides (2)\n\
         bddl fmt-domain DOMAIN        writes the canonical text of a domain\n\
         bddl fmt-problem PROBLEM      writes the canonical text of a problem\n\
         bddl help, bddl --help        writes this text\n\
@@ -34,6 +37,8 @@ pub fn help<K: Sink>(out: &mut K) -> Result<Close, Stop<Content>>
         4   a write failed\n\
         5   memory ran out\n\
         6   a certificate is refused\n\
+        7   no reply came\n\
+        8   a reply is none of the moves\n\
         10  the game is won, or the formula is true\n\
         20  the game is not won, or the formula is false\n\
         30  the steps are spent\n",

@@ -35,6 +35,9 @@ pub fn named(word: &[u8]) -> Option<Command>
     if word == b"recert".as_slice() {
         return Some(Command::Recertify);
     }
+    if word == b"play".as_slice() {
+        return Some(Command::Play);
+    }
     if word == b"fmt-domain".as_slice() {
         return Some(Command::FormatDomain);
     }
@@ -57,7 +60,7 @@ pub fn limits_of(command: Command) -> &'static [Option<u64>]
 {
     match command {
         Command::Compile | Command::Solve | Command::Certify => &[GAME, GAME],
-        Command::Check | Command::Recertify => &[GAME, GAME, CERTIFICATE],
+        Command::Check | Command::Recertify | Command::Play => &[GAME, GAME, CERTIFICATE],
         Command::SolveFormula => &[FORMULA],
         Command::FormatDomain | Command::FormatProblem => &[GAME],
         Command::Help | Command::Version => &[],
@@ -70,6 +73,7 @@ pub fn numbers_of(command: Command) -> usize
     ensures few { result ≤ 2 }
 {
     match command {
+        Command::Play => 2,
         Command::Solve | Command::SolveFormula | Command::Certify => 1,
         Command::Compile
         | Command::Check

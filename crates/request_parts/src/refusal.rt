@@ -24,6 +24,10 @@ pub enum Close {
     NoStrategy,
     /// The steps are spent, and no certificate was found. This is noted.
     NotFound,
+    /// A play ended where no reply came. This is noted.
+    Gone,
+    /// A play ended with a reply that is none of so many moves. This is noted.
+    BadReply { number: u64, count: u64 },
 }
 
 impl Close {
@@ -34,6 +38,8 @@ impl Close {
     {
         match self {
             Close::Done => 0,
+            Close::Gone => 7,
+            Close::BadReply { .. } => 8,
             Close::Yes => 10,
             Close::No | Close::NoStrategy => 20,
             Close::Spent | Close::NotFound => 30,
@@ -48,6 +54,10 @@ impl Close {
             Close::Done | Close::Yes | Close::No | Close::Spent => Ok(String::new(alloc)),
             Close::NoStrategy => format!(in alloc; "no win\n"),
             Close::NotFound => format!(in alloc; "spent\n"),
+            Close::Gone => format!(in alloc; "opponent gone\n"),
+            Close::BadReply { number, count } => {
+                format!(in alloc; "reply {number} of {count}\n")
+            }
         }
     }
 }

@@ -1,26 +1,29 @@
 use Rattle.std.proofs.Common.{◌∙◌, [], Err, ap, arith, false, inl, inr, refl, true}
 use Rattle.request_parts.specs.Ends.{closed, refusal_told}
+use Rattle.bddl_model.specs.Outcome.{is_carried_out}
 use Rattle.request_parts.specs.declared.refusal.Close.{Close}
+use Rattle.request_parts.specs.declared.refusal.Refusal.{Refusal}
 use Rattle.request_parts.specs.declared.refusal.Stop.TheVariants.{Refused}
 use Rattle.bddl_requests.proofs.Answered.{carried_out, close_is_no_end, close_is_no_refusal, six, cut_answers, nothing_is_written, refusal_is_no_result, refusal_status, status_of_read, status_of_words, told_answers, told_or_cut, words_refused}
+use Rattle.bddl_requests.proofs.Early.{missed_ends, never_early, seven_is_missed}
 use Rattle.bddl_requests.proofs.program.run.Goals as goal
 
 -- ---- carried out
 
 pub returns-in-Ok-clause-ends : goal.returns-in-Ok-clause-ends
-returns-in-Ok-clause-ends g c =
-    let written = c.in-Ok.ensures.written true (λ e. absurd cc) in
+returns-in-Ok-clause-ends g c replies are =
+    let written = c.in-Ok.ensures.written true replies (λ e. absurd cc) are in
     told_answers _ (closed c.in-Ok.close written.0) _ _ _ _ _ written.1 written.2 (rw c.status.ensures.status at c.status.ensures.not_cut) (c.tell.ensures.told (closed c.in-Ok.close written.0) c.status.ensures.status c.note.ensures)
 
 pub returns-in-Ok-clause-calm : goal.returns-in-Ok-clause-calm
-returns-in-Ok-clause-calm g c calm =
-    let written = c.in-Ok.ensures.written false (λ e. calm) in
+returns-in-Ok-clause-calm g c replies are calm =
+    let written = c.in-Ok.ensures.written false replies (λ e. calm) are in
     told_answers _ (closed c.in-Ok.close written.0) _ _ _ _ _ written.1 written.2 (rw c.status.ensures.status at c.status.ensures.not_cut) (c.tell.ensures.told (closed c.in-Ok.close written.0) c.status.ensures.status c.note.ensures)
 
 pub returns-in-Ok-clause-carried_out : goal.returns-in-Ok-clause-carried_out
-returns-in-Ok-clause-carried_out g c carried =
-    let written = c.in-Ok.ensures.written true (λ e. absurd cc) in
-    carried_out (g.S.Shelf.held c.args.shelf.now) _ c.in-Ok.close _ _ _ _ _ written (c.tell.ensures.told (closed c.in-Ok.close written.0) c.status.ensures.status c.note.ensures) carried
+returns-in-Ok-clause-carried_out g c replies are carried =
+    let written = c.in-Ok.ensures.written true replies (λ e. absurd cc) are in
+    carried_out (g.S.Shelf.held c.args.shelf.now) _ replies c.in-Ok.close _ _ _ _ _ written (c.tell.ensures.told (closed c.in-Ok.close written.0) c.status.ensures.status c.note.ensures) carried
 
 pub returns-in-Ok-clause-words : goal.returns-in-Ok-clause-words
 returns-in-Ok-clause-words g c one =
@@ -36,22 +39,34 @@ pub returns-in-Ok-clause-read_fault : goal.returns-in-Ok-clause-read_fault
 returns-in-Ok-clause-read_fault g c three =
     close_is_no_refusal c.in-Ok.close [] _ _ _ 3 (omega arith) refl (c.tell.ensures.told (closed c.in-Ok.close []) c.status.ensures.status c.note.ensures) three
 
+pub returns-in-Ok-clause-missed : goal.returns-in-Ok-clause-missed
+returns-in-Ok-clause-missed g c seven =
+    c.in-Ok.ensures.missed.0 (seven_is_missed Refusal c.in-Ok.close [] _ _ _ (c.tell.ensures.told (closed c.in-Ok.close []) c.status.ensures.status c.note.ensures) seven)
+
+pub returns-in-Ok-clause-missed_rose : goal.returns-in-Ok-clause-missed_rose
+returns-in-Ok-clause-missed_rose g c rises =
+    missed_ends Refusal c.in-Ok.close [] _ _ _ (c.tell.ensures.told (closed c.in-Ok.close []) c.status.ensures.status c.note.ensures) (c.in-Ok.ensures.missed.1 rises)
+
+pub returns-in-Ok-clause-steady : goal.returns-in-Ok-clause-steady
+returns-in-Ok-clause-steady g c steady =
+    never_early Refusal c.in-Ok.close [] _ _ _ (c.tell.ensures.told (closed c.in-Ok.close []) c.status.ensures.status c.note.ensures) (c.in-Ok.ensures.steady steady)
+
 -- ---- refused
 
 pub returns-in-Err-Refused-clause-ends : goal.returns-in-Err-Refused-clause-ends
-returns-in-Err-Refused-clause-ends g c =
-    let written = rw c.in-Err-Refused.field-0-is at (c.in-Err-Refused.ensures.written true (λ e. absurd cc)) in
+returns-in-Err-Refused-clause-ends g c replies are =
+    let written = rw c.in-Err-Refused.field-0-is at (c.in-Err-Refused.ensures.written true replies (λ e. absurd cc) are) in
     let told = c.tell-in-Err-Refused.ensures.told (refusal_told c.in-Err-Refused.refusal) c.status_of.ensures.status c.note_of.ensures in
     told_answers _ (refusal_told c.in-Err-Refused.refusal) _ _ _ _ _ written.1 (nothing_is_written c.in-Err-Refused.refusal _ _ written.0) (rw c.status_of.ensures.status at c.status_of.ensures.not_cut) told
 
 pub returns-in-Err-Refused-clause-calm : goal.returns-in-Err-Refused-clause-calm
-returns-in-Err-Refused-clause-calm g c calm =
-    let written = rw c.in-Err-Refused.field-0-is at (c.in-Err-Refused.ensures.written false (λ e. calm)) in
+returns-in-Err-Refused-clause-calm g c replies are calm =
+    let written = rw c.in-Err-Refused.field-0-is at (c.in-Err-Refused.ensures.written false replies (λ e. calm) are) in
     let told = c.tell-in-Err-Refused.ensures.told (refusal_told c.in-Err-Refused.refusal) c.status_of.ensures.status c.note_of.ensures in
     told_answers _ (refusal_told c.in-Err-Refused.refusal) _ _ _ _ _ written.1 (nothing_is_written c.in-Err-Refused.refusal _ _ written.0) (rw c.status_of.ensures.status at c.status_of.ensures.not_cut) told
 
 pub returns-in-Err-Refused-clause-carried_out : goal.returns-in-Err-Refused-clause-carried_out
-returns-in-Err-Refused-clause-carried_out g c carried =
+returns-in-Err-Refused-clause-carried_out g c replies are carried =
     refusal_is_no_result c.in-Err-Refused.refusal _ _ _ (c.tell-in-Err-Refused.ensures.told (refusal_told c.in-Err-Refused.refusal) c.status_of.ensures.status c.note_of.ensures) carried
 
 pub returns-in-Err-Refused-clause-words : goal.returns-in-Err-Refused-clause-words
@@ -66,7 +81,20 @@ returns-in-Err-Refused-clause-no_request g c none =
     told_or_cut (refusal_told c.in-Err-Refused.refusal) _ _ _ 1 told (words_refused (Err c.in-Err-Refused.field-0) _ _ refl c.in-Err-Refused.field-0-is (c.in-Err-Refused.ensures.no_request none))
 
 pub returns-in-Err-Refused-clause-refused : goal.returns-in-Err-Refused-clause-refused
-returns-in-Err-Refused-clause-refused g c status = (rw c.in-Err-Refused.field-0-is at (c.in-Err-Refused.ensures.written true (λ e. absurd cc))).0
+returns-in-Err-Refused-clause-refused g c status = c.in-Err-Refused.ensures.refused (rw c.in-Err-Refused.field-0-is refl)
+
+pub returns-in-Err-Refused-clause-began : goal.returns-in-Err-Refused-clause-began
+returns-in-Err-Refused-clause-began g c carried =
+    refusal_is_no_result c.in-Err-Refused.refusal _ _ _ (c.tell-in-Err-Refused.ensures.told (refusal_told c.in-Err-Refused.refusal) c.status_of.ensures.status c.note_of.ensures) carried
+
+pub returns-in-Err-Refused-clause-missed : goal.returns-in-Err-Refused-clause-missed
+returns-in-Err-Refused-clause-missed g c seven =
+    refusal_is_no_result c.in-Err-Refused.refusal _ _ _ (c.tell-in-Err-Refused.ensures.told (refusal_told c.in-Err-Refused.refusal) c.status_of.ensures.status c.note_of.ensures) (ap is_carried_out seven)
+
+pub returns-in-Err-Refused-clause-steady : goal.returns-in-Err-Refused-clause-steady
+returns-in-Err-Refused-clause-steady g c steady =
+    let told = c.tell-in-Err-Refused.ensures.told (refusal_told c.in-Err-Refused.refusal) c.status_of.ensures.status c.note_of.ensures in
+    ((λ seven. refusal_is_no_result c.in-Err-Refused.refusal _ _ _ told (ap is_carried_out seven)), λ eight. refusal_is_no_result c.in-Err-Refused.refusal _ _ _ told (ap is_carried_out eight))
 
 pub returns-in-Err-Refused-clause-read_fault : goal.returns-in-Err-Refused-clause-read_fault
 returns-in-Err-Refused-clause-read_fault g c three =
@@ -81,13 +109,13 @@ returns-in-Err-Refused-clause-read_rose g c rose =
 -- ---- cut short
 
 pub returns-in-Err-WriteFault-clause-ends : goal.returns-in-Err-WriteFault-clause-ends
-returns-in-Err-WriteFault-clause-ends g c = cut_answers _ _ _ _ 4 (inl refl) (rw c.in-Err-WriteFault.field-0-is at (c.in-Err-WriteFault.ensures.written true (λ e. absurd cc)))
+returns-in-Err-WriteFault-clause-ends g c replies are = cut_answers _ _ _ _ 4 (inl refl) (rw c.in-Err-WriteFault.field-0-is at (c.in-Err-WriteFault.ensures.written true replies (λ e. absurd cc) are))
 
 pub returns-in-Err-WriteFault-clause-calm : goal.returns-in-Err-WriteFault-clause-calm
-returns-in-Err-WriteFault-clause-calm g c calm = cut_answers _ _ _ _ 4 (inl refl) (rw c.in-Err-WriteFault.field-0-is at (c.in-Err-WriteFault.ensures.written false (λ e. calm)))
+returns-in-Err-WriteFault-clause-calm g c replies are calm = cut_answers _ _ _ _ 4 (inl refl) (rw c.in-Err-WriteFault.field-0-is at (c.in-Err-WriteFault.ensures.written false replies (λ e. calm) are))
 
 pub returns-in-Err-NoMemory-clause-ends : goal.returns-in-Err-NoMemory-clause-ends
-returns-in-Err-NoMemory-clause-ends g c = cut_answers _ _ _ _ 5 (inr refl) (rw c.in-Err-NoMemory.field-0-is at (c.in-Err-NoMemory.ensures.written true (λ e. absurd cc)))
+returns-in-Err-NoMemory-clause-ends g c replies are = cut_answers _ _ _ _ 5 (inr refl) (rw c.in-Err-NoMemory.field-0-is at (c.in-Err-NoMemory.ensures.written true replies (λ e. absurd cc) are))
 
 pub returns-in-Err-NoMemory-clause-calm : goal.returns-in-Err-NoMemory-clause-calm
-returns-in-Err-NoMemory-clause-calm g c calm = cut_answers _ _ _ _ 5 (inr refl) (rw c.in-Err-NoMemory.field-0-is at (c.in-Err-NoMemory.ensures.written false (λ e. calm)))
+returns-in-Err-NoMemory-clause-calm g c replies are calm = cut_answers _ _ _ _ 5 (inr refl) (rw c.in-Err-NoMemory.field-0-is at (c.in-Err-NoMemory.ensures.written false replies (λ e. calm) are))

@@ -1,4 +1,4 @@
-use Rattle.std.proofs.Common.{◌≡◌, Ok, ap, subst, sym}
+use Rattle.std.proofs.Common.{subst, sym}
 use Rattle.bddl_model.specs.Certificate.{IsSharedForm}
 use Rattle.bddl_model.specs.CertificateText.{ctext}
 use Rattle.bddl_model.specs.Limits.{IsGame}

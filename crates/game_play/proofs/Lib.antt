@@ -1,0 +1,4 @@
+pub mod Showing
+pub mod Following
+pub mod Plying
+pub mod Rounding
