@@ -1,4 +1,5 @@
 mod Examples
+mod TrialExamples
 mod CertificateExamples
 pub mod PlaceTests
 pub mod FirstNamings

@@ -14,6 +14,7 @@ help_text =
     ++ (codes "bddl play DOMAIN PROBLEM CERTIFICATE WHO START\n"
     ++ (codes "                              plays a strategy against you (WHO 0), the first\n"
     ++ (codes "                              move (1), or moves that START decides (2)\n"
+    ++ (codes "bddl trial START N            makes two games from a number, and decides the small one\n"
     ++ (codes "bddl fmt-domain DOMAIN        writes the canonical text of a domain\n"
     ++ (codes "bddl fmt-problem PROBLEM      writes the canonical text of a problem\n"
     ++ (codes "bddl help, bddl --help        writes this text\n"
@@ -30,7 +31,7 @@ help_text =
     ++ (codes "8   a reply is none of the moves\n"
     ++ (codes "10  the game is won, or the formula is true\n"
     ++ (codes "20  the game is not won, or the formula is false\n"
-    ++ codes "30  the steps are spent\n"))))))))))))))))))))))))))
+    ++ codes "30  the steps are spent\n")))))))))))))))))))))))))))
 
 abbrev pub version_text : List ℕ
 version_text = codes "bddl, rattle-kit-13f logic dac8208d650f15bf\n"

@@ -52,6 +52,7 @@ pub mod Canonical
 pub mod Encodes
 pub mod Notes
 pub mod Request
+pub mod Trial
 pub mod Verdicts
 pub mod About
 pub mod Outcome

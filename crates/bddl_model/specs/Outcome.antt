@@ -12,7 +12,7 @@ use Rattle.bddl_model.specs.declared.certificate.CertFault.{CertFault}
 use Rattle.bddl_model.specs.declared.formula.Quant.TheVariants as quant
 use Rattle.bddl_model.specs.declared.formula.Verdict.TheVariants as verdict
 use Rattle.bddl_model.specs.declared.command.Command.{Command}
-use Rattle.bddl_model.specs.declared.command.Command.TheVariants.{Compile, Solve, SolveFormula, Certify, Check, Recertify, Play, FormatDomain, FormatProblem, Help, Version}
+use Rattle.bddl_model.specs.declared.command.Command.TheVariants.{Compile, Solve, SolveFormula, Certify, Check, Recertify, Play, Trial, FormatDomain, FormatProblem, Help, Version}
 use Rattle.bddl_model.specs.Files.{Files}
 use Rattle.bddl_model.specs.About.{help_text, version_text}
 use Rattle.bddl_model.specs.Notes as notes
@@ -24,8 +24,9 @@ use Rattle.bddl_model.specs.Truth.{Formula}
 use Rattle.bddl_model.specs.FormulaText.{qtext}
 use Rattle.bddl_model.specs.Qdimacs.{Qdimacs, HasOneForm}
 use Rattle.bddl_model.specs.FormulaFaults.{QdimacsFails}
-use Rattle.bddl_model.specs.Setup.{Setup}
+use Rattle.bddl_model.specs.Setup.{Setup, setup_of}
 use Rattle.bddl_model.specs.Check.{checked_setup}
+use Rattle.bddl_model.specs.Trial.{large, occupying, small}
 use Rattle.bddl_model.specs.Win.{win}
 use Rattle.bddl_model.specs.Encodes.{Encodes}
 use Rattle.bddl_model.specs.Bounds.{bound, game_bound, certify_bound}
@@ -34,7 +35,7 @@ use Rattle.bddl_model.specs.CertificateText.{ctext, CertText}
 use Rattle.bddl_model.specs.CertificateFaults.{CertFails}
 use Rattle.bddl_model.specs.declared.play.Played.TheVariants as ends
 use Rattle.bddl_model.specs.Play.{Told, plays, in_range, Reaches, ReachesOrGone}
-use Rattle.bddl_model.specs.Verdicts.{IsValue, win_text, no_win_text, spent_text, accepted_text, answer_text}
+use Rattle.bddl_model.specs.Verdicts.{IsValue, win_text, no_win_text, spent_text, accepted_text, answer_text, trial_text}
 use Rattle.bddl_model.specs.Request.{Request, limits_of, files_of}
 
 -- how a call ends that is not cut short: its status, and what it wrote
@@ -180,6 +181,19 @@ pub record PlayEnds (replies : List ℕ) (s : Setup) (nodes : List Node) (end : 
   pub won : in_range s nodes replies ≡ true → ReachesOrGone s.depth (plays s nodes replies).end
   pub reached : in_range s nodes replies ≡ true → s.depth ≤ 2 * length replies → Reaches s.depth (plays s nodes replies).end
 
+-- ---- trial games
+
+-- what two games end as, of which the small one is decided in so many steps
+abbrev pub SmallEnds : Setup → Setup → ℕ → End → Type 0
+SmallEnds big s budget end =
+    ((win s.game s.first s.board s.depth ≡ true) × (end ≡ told 0 (trial_text big s win_text)))
+    ⊎ (((win s.game s.first s.board s.depth ≡ false) × (end ≡ told 0 (trial_text big s no_win_text)))
+    ⊎ ((budget < game_bound s) × (end ≡ told 30 (trial_text big s spent_text))))
+
+-- what the games of a number end as
+abbrev pub TrialEnds : ℕ → ℕ → End → Type 0
+TrialEnds number budget end = SmallEnds (setup_of occupying (large number)) (setup_of occupying (small number)) budget end
+
 -- ---- the table of ends
 
 -- what a command may end as, by the contents of its files, by its numbers, and by White's replies
@@ -191,6 +205,7 @@ ContentEnds Certify (d ∷ p ∷ []) (n ∷ []) replies end = GameThen d p (Cert
 ContentEnds Check (d ∷ p ∷ c ∷ []) [] replies end = GameThen d p (AcceptedThen c CheckEnds) end
 ContentEnds Recertify (d ∷ p ∷ c ∷ []) [] replies end = GameThen d p (AcceptedThen c RecertifyEnds) end
 ContentEnds Play (d ∷ p ∷ c ∷ []) (who ∷ number ∷ []) replies end = GameThen d p (AcceptedThen c (PlayEnds replies)) end
+ContentEnds Trial [] (number ∷ n ∷ []) replies end = TrialEnds number n end
 ContentEnds FormatDomain (d ∷ []) [] replies end = DomainThen d (λ tree. Says (domain_text tree)) end
 ContentEnds FormatProblem (p ∷ []) [] replies end = ProblemThen p (λ tree. Says (problem_text tree)) end
 ContentEnds Help [] [] replies end = Says help_text end
@@ -218,6 +233,7 @@ Results Certify (d ∷ p ∷ []) (n ∷ []) replies end = (dom : DomainText) × 
 Results Check (d ∷ p ∷ c ∷ []) [] replies end = (s : Setup) × (nodes : List Node) × Accepts d p c s nodes × CheckEnds s nodes end
 Results Recertify (d ∷ p ∷ c ∷ []) [] replies end = (s : Setup) × (nodes : List Node) × Accepts d p c s nodes × RecertifyEnds s nodes end
 Results Play (d ∷ p ∷ c ∷ []) (who ∷ number ∷ []) replies end = (s : Setup) × (nodes : List Node) × Accepts d p c s nodes × PlayEnds replies s nodes end
+Results Trial [] (number ∷ n ∷ []) replies end = TrialEnds number n end
 Results FormatDomain (d ∷ []) [] replies end = (tree : DomainText) × Reads domain d tree × Says (domain_text tree) end
 Results FormatProblem (p ∷ []) [] replies end = (tree : ProblemText) × Reads problem p tree × Says (problem_text tree) end
 Results Help [] [] replies end = Says help_text end

@@ -4,7 +4,7 @@ use Rattle.std.specs.Fmt.{decimal}
 use Rattle.std.specs.List.{list_any}
 use Rattle.bddl_model.specs.Bytes.{digits_from}
 use Rattle.bddl_model.specs.declared.command.Command.{Command}
-use Rattle.bddl_model.specs.declared.command.Command.TheVariants.{Compile, Solve, SolveFormula, Certify, Check, Recertify, Play, FormatDomain, FormatProblem, Help, Version}
+use Rattle.bddl_model.specs.declared.command.Command.TheVariants.{Compile, Solve, SolveFormula, Certify, Check, Recertify, Play, Trial, FormatDomain, FormatProblem, Help, Version}
 
 -- ---- the table of commands
 
@@ -17,6 +17,7 @@ names_of Certify = codes "certify" ∷ []
 names_of Check = codes "check" ∷ []
 names_of Recertify = codes "recert" ∷ []
 names_of Play = codes "play" ∷ []
+names_of Trial = codes "trial" ∷ []
 names_of FormatDomain = codes "fmt-domain" ∷ []
 names_of FormatProblem = codes "fmt-problem" ∷ []
 names_of Help = codes "help" ∷ codes "--help" ∷ []
@@ -43,6 +44,7 @@ limits_of Certify = game_limit ∷ game_limit ∷ []
 limits_of Check = game_limit ∷ game_limit ∷ certificate_limit ∷ []
 limits_of Recertify = game_limit ∷ game_limit ∷ certificate_limit ∷ []
 limits_of Play = game_limit ∷ game_limit ∷ certificate_limit ∷ []
+limits_of Trial = []
 limits_of FormatDomain = game_limit ∷ []
 limits_of FormatProblem = game_limit ∷ []
 limits_of Help = []
@@ -57,13 +59,14 @@ numbers_of Certify = 1
 numbers_of Check = 0
 numbers_of Recertify = 0
 numbers_of Play = 2
+numbers_of Trial = 2
 numbers_of FormatDomain = 0
 numbers_of FormatProblem = 0
 numbers_of Help = 0
 numbers_of Version = 0
 
 abbrev pub commands : List Command
-commands = Compile ∷ Solve ∷ SolveFormula ∷ Certify ∷ Check ∷ Recertify ∷ Play ∷ FormatDomain ∷ FormatProblem ∷ Help ∷ Version ∷ []
+commands = Compile ∷ Solve ∷ SolveFormula ∷ Certify ∷ Check ∷ Recertify ∷ Play ∷ Trial ∷ FormatDomain ∷ FormatProblem ∷ Help ∷ Version ∷ []
 
 abbrev pub is_named : List ℕ → Command → Bool
 is_named word c = list_any (bytes_eq word) (names_of c)

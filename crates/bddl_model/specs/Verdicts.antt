@@ -5,6 +5,8 @@ use Rattle.bddl_model.specs.declared.formula.Bound.{Bound}
 use Rattle.bddl_model.specs.declared.formula.Quant.{Quant}
 use Rattle.bddl_model.specs.declared.formula.Verdict.{Verdict}
 use Rattle.bddl_model.specs.declared.formula.Verdict.TheVariants.{True, False, Spent}
+use Rattle.bddl_model.specs.Setup.{Setup}
+use Rattle.bddl_model.specs.Size.{gate_limit, inputs_of}
 use Rattle.bddl_model.specs.Truth.{Formula, form_value, clauses_true, no_values}
 use Rattle.bddl_model.specs.Fine.{first_block, value_under}
 
@@ -21,6 +23,16 @@ spent_text = codes "spent\n"
 
 abbrev pub accepted_text : List ℕ
 accepted_text = codes "accepted\n"
+
+-- ---- of two trial games
+
+-- the size and the depth of the large one, its inputs, and the limit of its gates; the depth of the small one, and what was decided
+abbrev pub trial_text : Setup → Setup → List ℕ → List ℕ
+trial_text large small decided =
+    codes "large " ++ (decimal large.game.width ++ (codes " " ++ (decimal large.game.height ++ (codes " " ++ (decimal large.depth
+    ++ (codes "\ninputs " ++ (decimal (inputs_of large)
+    ++ (codes "\nlimit " ++ (decimal (gate_limit large)
+    ++ (codes "\ngates within limit\nsmall " ++ (decimal small.depth ++ (codes " " ++ decided))))))))))))
 
 -- ---- of a formula
 

@@ -8,6 +8,7 @@ pub enum Command {
     Check,
     Recertify,
     Play,
+    Trial,
     FormatDomain,
     FormatProblem,
     Help,

@@ -45,14 +45,20 @@ one_file bytes_of [] v d e h x = absurd (omega arith)
 one_file bytes_of (f ∷ []) v d e h x = ap (λ a. a ∷ []) (sym (x ∙ ap bytes_of h))
 one_file bytes_of (f ∷ g ∷ more) v d e h x = absurd (omega arith)
 
-nothing_left : (ns : List ℕ) → length ns ≡ 0 → ns ≡ []
+pub nothing_left : {X : Type 0} (xs : List X) → length xs ≡ 0 → xs ≡ []
 nothing_left [] e = refl
-nothing_left (n ∷ ns) e = absurd (omega arith)
+nothing_left (x ∷ xs) e = absurd (omega arith)
 
 one_left : (ns : List ℕ) (n : ℕ) → length ns ≡ 1 → n ≡ get_or ns 0 n → ns ≡ n ∷ []
 one_left [] n e h = absurd (omega arith)
 one_left (m ∷ []) n e h = ap (λ k. k ∷ []) (sym h)
 one_left (m ∷ k ∷ ns) n e h = absurd (omega arith)
+
+two_left : (ns : List ℕ) (n m : ℕ) → length ns ≡ 2 → n ≡ get_or ns 0 n → m ≡ get_or ns 1 m → ns ≡ n ∷ m ∷ []
+two_left [] n m e h k = absurd (omega arith)
+two_left (a ∷ []) n m e h k = absurd (omega arith)
+two_left (a ∷ b ∷ []) n m e h k = ap₂ (λ a b. a ∷ b ∷ []) (sym h) (sym k)
+two_left (a ∷ b ∷ c ∷ ns) n m e h k = absurd (omega arith)
 
 module _ (known asked : Command) (contents cs : List (List ℕ)) (numbers replies : List ℕ) (old new : Option (List ℕ)) (r : Result Close (Stop Content)) (e : asked ≡ known) (f : contents ≡ cs) where
   pub written_with : (ns : List ℕ) → numbers ≡ ns → Writes content_told (ContentEnds known cs ns replies) old new r → Writes content_told (ContentEnds asked contents numbers replies) old new r
@@ -68,6 +74,10 @@ module _ (known asked : Command) (contents cs : List (List ℕ)) (numbers replie
   -- a command with one
   pub written_by_number : (n : ℕ) → length numbers ≡ 1 → n ≡ get_or numbers 0 n → Writes content_told (ContentEnds known cs (n ∷ []) replies) old new r → Writes content_told (ContentEnds asked contents numbers replies) old new r
   written_by_number n g h = written_with (n ∷ []) (one_left numbers n g h)
+
+  -- with two
+  pub written_by_numbers : (n m : ℕ) → length numbers ≡ 2 → n ≡ get_or numbers 0 n → m ≡ get_or numbers 1 m → Writes content_told (ContentEnds known cs (n ∷ m ∷ []) replies) old new r → Writes content_told (ContentEnds asked contents numbers replies) old new r
+  written_by_numbers n m g h k = written_with (n ∷ m ∷ []) (two_left numbers n m g h k)
 
 -- ---- from there to the request
 

@@ -1,5 +1,5 @@
 -- What is told of a game or a formula that was decided is an end of the request.
-use Rattle.std.proofs.Common.{ℕ, suc, ◌≡◌, ◌<◌, ◌≤◌, Bool, true, false, List, [], ◌∷◌, length, Option, Result, Ok, Err, inl, inr, refl, arith, if◌then◌else◌}
+use Rattle.std.proofs.Common.{ℕ, suc, ◌≡◌, ◌<◌, ◌≤◌, Bool, true, false, List, [], ◌∷◌, length, Option, Result, Ok, Err, inl, inr, refl, ap, subst, arith, if◌then◌else◌}
 use Rattle.bddl_model.specs.declared.formula.Quant.{Quant}
 use Rattle.bddl_model.specs.declared.formula.Quant.TheVariants as quant
 use Rattle.bddl_model.specs.declared.formula.Bound.{Bound}
@@ -10,22 +10,24 @@ use Rattle.bddl_model.specs.declared.texts.ProblemText.{ProblemText}
 use Rattle.bddl_model.specs.Bounds.{bound, game_bound}
 use Rattle.bddl_model.specs.Fine.{first_block}
 use Rattle.bddl_model.specs.FormulaText.{same_quant}
-use Rattle.bddl_model.specs.Outcome.{End, FormulaSolveEnds, FormulaThen, GameThen, SolveEnds, States}
+use Rattle.bddl_model.specs.Outcome.{End, FormulaSolveEnds, FormulaThen, GameThen, SmallEnds, SolveEnds, States, TrialEnds}
 use Rattle.bddl_model.specs.Qdimacs.{Qdimacs}
-use Rattle.bddl_model.specs.Setup.{Setup}
+use Rattle.bddl_model.specs.Setup.{Setup, setup_of}
+use Rattle.bddl_model.specs.Trial.{large, occupying, small}
 use Rattle.bddl_model.specs.Truth.{Formula}
-use Rattle.bddl_model.specs.Verdicts.{IsValue}
+use Rattle.bddl_model.specs.Verdicts.{IsValue, trial_text}
 use Rattle.bddl_model.specs.Win.{win}
 use Rattle.strategy.specs.declared.deciding.Decided.{Decided}
 use Rattle.strategy.specs.declared.deciding.Decided.TheVariants as decided
 use Rattle.request_parts.specs.Ends.{CutShort, Writes, closed, content_told}
 use Rattle.request_parts.specs.declared.refusal.Close.{Close}
+use Rattle.request_parts.specs.declared.refusal.Close.TheVariants as close
 use Rattle.request_parts.specs.declared.refusal.Content.{Content}
 use Rattle.request_parts.specs.declared.refusal.Stop.{Stop}
 use Rattle.request_parts.specs.declared.refusal.Stop.TheVariants as stop
 use Rattle.request_parts.proofs.Formulas.{formula_goes_on}
 use Rattle.request_parts.proofs.Games.{game_goes_on}
-use Rattle.bddl_requests.specs.Decisions.{IsTold, decided_close, decided_text}
+use Rattle.bddl_requests.specs.Decisions.{IsTold, decided_close, decided_text, trial_close}
 
 -- ---- games
 
@@ -41,6 +43,20 @@ module _ (s : Setup) (budget : ℕ) (r : Result Decided NoMemory)
   pub game_is_decided : (d p : List ℕ) (dom : DomainText) (prob : ProblemText) → States d p dom prob (Ok s) → (found : Decided) → r ≡ Ok found
       → GameThen d p (SolveEnds budget) (closed (decided_close found) (decided_text found))
   game_is_decided d p dom prob states found e = game_goes_on d p dom prob s (SolveEnds budget) _ states (decided_is_an_end found e)
+
+-- a trial tells how its small game was decided
+pub trial_is_decided : (number budget : ℕ) (big s : Setup) → big ≡ setup_of occupying (large number) → s ≡ setup_of occupying (small number) → (r : Result Decided NoMemory)
+    → (r ≡ Ok decided.Win → win s.game s.first s.board s.depth ≡ true)
+    → (r ≡ Ok decided.NoWin → win s.game s.first s.board s.depth ≡ false)
+    → (r ≡ Ok decided.Spent → budget < game_bound s)
+    → (d : Decided) → r ≡ Ok d → (text : List ℕ) → text ≡ trial_text big s (decided_text d) → TrialEnds number budget (closed (trial_close d) text)
+trial_is_decided number budget big s b e r won not_won spent d found text told =
+    subst (λ b. SmallEnds b (setup_of occupying (small number)) budget (closed (trial_close d) text)) b (subst (λ t. SmallEnds big t budget (closed (trial_close d) text)) e (ends d found told))
+  where
+    ends : (d : Decided) → r ≡ Ok d → text ≡ trial_text big s (decided_text d) → SmallEnds big s budget (closed (trial_close d) text)
+    ends decided.Win found told = inl (won found, ap (λ t. closed close.Done t) told)
+    ends decided.NoWin found told = inr (inl (not_won found, ap (λ t. closed close.Done t) told))
+    ends decided.Spent found told = inr (inr (spent found, ap (λ t. closed close.Spent t) told))
 
 -- ---- formulas
 

@@ -2,7 +2,7 @@
 use Rattle.std.proofs.Common.{ℕ, ◌≡◌, ◌<◌, ◌==◌, ◌||◌, ◌⊎◌, Bool, true, false, List, [], ◌∷◌, length, get_or, Option, None, Some, Result, Ok, Err, IfOk, inl, inr, refl, sym, ap, ◌∙◌, arith}
 use Rattle.std.specs.Option.{unwrap_or}
 use Rattle.bddl_model.specs.declared.command.Command.{Command}
-use Rattle.bddl_model.specs.declared.command.Command.TheVariants.{Compile, Solve, SolveFormula, Certify, Check, Recertify, Play, FormatDomain, FormatProblem, Help, Version}
+use Rattle.bddl_model.specs.declared.command.Command.TheVariants.{Compile, Solve, SolveFormula, Certify, Check, Recertify, Play, Trial, FormatDomain, FormatProblem, Help, Version}
 use Rattle.bddl_model.specs.Outcome.{ContentEnds, End, Results}
 use Rattle.bddl_model.specs.Request.{numbers_of, opponent_in}
 use Rattle.request_parts.specs.Ends.{NotCut, Tells, Writes, close_status, closed, content_told}
@@ -33,6 +33,7 @@ is_play SolveFormula numbers who n e len at = absurd cc
 is_play Certify numbers who n e len at = absurd cc
 is_play Check numbers who n e len at = absurd cc
 is_play Recertify numbers who n e len at = absurd cc
+is_play Trial numbers who n e len at = absurd cc
 is_play FormatDomain numbers who n e len at = absurd cc
 is_play FormatProblem numbers who n e len at = absurd cc
 is_play Help numbers who n e len at = absurd cc
@@ -56,6 +57,9 @@ is_plain Certify (d ∷ p ∷ []) (n ∷ []) replies end alone (dom, prob, s, st
 is_plain Check (d ∷ p ∷ c ∷ []) [] replies end alone (s, nodes, accepts, h) = ap (λ (e : End). plain e.status) h.1
 is_plain Recertify (d ∷ p ∷ c ∷ []) [] replies end alone (s, nodes, accepts, h) = ap (λ (e : End). plain e.status) h.3
 is_plain Play (d ∷ p ∷ c ∷ []) (who ∷ number ∷ []) replies end alone h = absurd cc
+is_plain Trial [] (number ∷ n ∷ []) replies end alone (inl h) = ap (λ (e : End). plain e.status) h.1
+is_plain Trial [] (number ∷ n ∷ []) replies end alone (inr (inl h)) = ap (λ (e : End). plain e.status) h.1
+is_plain Trial [] (number ∷ n ∷ []) replies end alone (inr (inr h)) = ap (λ (e : End). plain e.status) h.1
 is_plain FormatDomain (d ∷ []) [] replies end alone (tree, reads, says) = ap (λ (e : End). plain e.status) says
 is_plain FormatProblem (p ∷ []) [] replies end alone (tree, reads, says) = ap (λ (e : End). plain e.status) says
 is_plain Help [] [] replies end alone says = ap (λ (e : End). plain e.status) says

@@ -6,3 +6,4 @@ pub mod Certifying
 pub mod Transcripts
 pub mod Seats
 pub mod Early
+mod Summaries

@@ -1,7 +1,7 @@
 -- What a request that is carried out ends as.
 use Rattle.std.proofs.Common.{ℕ, ◌≡◌, true, List, [], ◌∷◌, Option, None, Some, inl, inr, refl, subst}
 use Rattle.bddl_model.specs.declared.command.Command.{Command}
-use Rattle.bddl_model.specs.declared.command.Command.TheVariants.{Compile, Solve, SolveFormula, Certify, Check, Recertify, Play, FormatDomain, FormatProblem, Help, Version}
+use Rattle.bddl_model.specs.declared.command.Command.TheVariants.{Compile, Solve, SolveFormula, Certify, Check, Recertify, Play, Trial, FormatDomain, FormatProblem, Help, Version}
 use Rattle.bddl_model.specs.declared.texts.DomainText.{DomainText}
 use Rattle.bddl_model.specs.declared.texts.ProblemText.{ProblemText}
 use Rattle.bddl_model.specs.declared.certificate.Node.{Node}
@@ -42,6 +42,7 @@ result_of Certify (d ∷ p ∷ []) (n ∷ []) replies end carried h = of_game d 
 result_of Check (d ∷ p ∷ c ∷ []) [] replies end carried h = of_certificate d p c CheckEnds end carried h
 result_of Recertify (d ∷ p ∷ c ∷ []) [] replies end carried h = of_certificate d p c RecertifyEnds end carried h
 result_of Play (d ∷ p ∷ c ∷ []) (who ∷ number ∷ []) replies end carried h = of_certificate d p c (PlayEnds replies) end carried h
+result_of Trial [] (number ∷ n ∷ []) replies end carried h = h
 result_of SolveFormula (f ∷ []) (n ∷ []) replies end carried (inl w) = absurd (not_refused end 2 _ carried refl w.2)
 result_of SolveFormula (f ∷ []) (n ∷ []) replies end carried (inr h) = h
 result_of FormatDomain (d ∷ []) [] replies end carried (inl f) = absurd (not_refused end 2 _ carried refl f.2)

@@ -21,6 +21,12 @@ decided_close decided.Win = close.Yes
 decided_close decided.NoWin = close.No
 decided_close decided.Spent = close.Spent
 
+-- a trial is done, whichever way its small game was decided
+abbrev pub trial_close : Decided → Close
+trial_close decided.Win = close.Done
+trial_close decided.NoWin = close.Done
+trial_close decided.Spent = close.Spent
+
 abbrev pub verdict_close : Verdict → Close
 verdict_close verdict.True = close.Yes
 verdict_close verdict.False = close.No

@@ -1,2 +1,3 @@
 pub mod Decisions
 pub mod Opponents
+pub mod Summaries

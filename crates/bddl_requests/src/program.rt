@@ -14,6 +14,7 @@ use crate::playing::play_at;
 use crate::recertify::recertify;
 use crate::solve::solve;
 use crate::solve_formula::solve_formula;
+use crate::trial::trial;
 use bddl_model::Command;
 use game_play::Opponent;
 use io_edge::{Shelf, Sink, SinkEnd, put_text};
@@ -25,11 +26,11 @@ use request_parts::{
 use std::alloc::{AllocError, Global};
 
 /// Carries out the request of the words, and answers the exit status: 0 where it was carried out and
-/// had nothing to decide, 10, 20 and 30 where the game or the formula was decided in favour of Black,
-/// or against it, or its steps were spent, 7 and 8 where a play ended for want of a reply, or with a
-/// reply that is none of the moves shown, 6 where a certificate is refused, 1 where the words are no
-/// request, 2 where a file is refused, 3 where a named file could not be read, 4 where a write failed,
-/// 5 where memory ran out.
+/// had nothing to decide, or was a trial; 10, 20 and 30 where the game or the formula was decided in
+/// favour of Black, or against it, or its steps were spent; 7 and 8 where a play ended for want of a
+/// reply, or with a reply that is none of the moves shown; 6 where a certificate is refused, 1 where the
+/// words are no request, 2 where a file is refused, 3 where a named file could not be read, 4 where a
+/// write failed, 5 where memory ran out. A trial whose steps were spent ends with 30 too.
 ///
 /// A play is against the opponent of the number that it names, counted from 0. It changes that
 /// opponent in its place. The decider chooses what a search tries first; what is found doesn't depend
@@ -59,7 +60,8 @@ pub fn run<S: Shelf, K: Sink, N: Sink>(
     // value is that of winning. `solve` and `qsolve` tell that value, or that the steps are spent, which are then below the bound.
     // `certify` writes a valid certificate of the game, in its shared form, or notes that Black doesn't win or that the steps are
     // spent. `check` accepts valid certificates alone, and Black wins where there is one. `play` under a valid certificate writes
-    // the transcript that White's replies decide: it reaches Black's goal within the depth against replies that were shown.
+    // the transcript that White's replies decide: it reaches Black's goal within the depth against replies that were shown. `trial`
+    // tells of the two games of its number whether Black wins the small one, or that the steps are spent, which are then below its bound.
     ensures carried_out { (replies : List ℕ) → AreReplies (λ o. said o) (λ o. left o) (opponent_of (request_of (vec_len opponents.old) (map (λ w. w.items) words.now))) opponents.old.items opponents.new.items replies
         → is_carried_out result ≡ true → (end : End) × IsResult (S.held shelf.old) (request_of (vec_len opponents.old) (map (λ w. w.items) words.now)) replies end
         × (result ≡ end.status) × (K.written out.new ≡ with_bytes (K.written out.old) end.out) × (N.written note.new ≡ with_bytes (N.written note.old) end.note) }
@@ -200,6 +202,7 @@ fn answer_alone<K: Sink>(
         ),
         Command::Check => check(alloc, &contents[0], &contents[1], &contents[2], out),
         Command::Recertify => recertify(alloc, &contents[0], &contents[1], &contents[2], out),
+        Command::Trial => trial(alloc, request.numbers[0], request.numbers[1], decider, out),
         Command::FormatDomain => format_domain(alloc, &contents[0], out),
         Command::FormatProblem => format_problem(alloc, &contents[0], out),
         Command::Help => help(out),

@@ -39,17 +39,18 @@ pub fn solve<K: Sink>(
         decider,
         &mut steps,
     )?;
-    put_text(out, text_of(decided))?;
+    put_text(out, text_of(decided).as_bytes())?;
     Ok(close_of(decided))
 }
 
-fn text_of(decided: Decided) -> &'static [u8]
+/// The line that tells what was decided.
+pub fn text_of(decided: Decided) -> &'static str
     ensures { result.now ≡ decided_text decided }
 {
     match decided {
-        Decided::Win => b"win\n",
-        Decided::NoWin => b"no win\n",
-        Decided::Spent => b"spent\n",
+        Decided::Win => "win\n",
+        Decided::NoWin => "no win\n",
+        Decided::Spent => "spent\n",
     }
 }
 

@@ -19,7 +19,7 @@ fn help_has_a_line_for_each_request_and_each_status(rt: HostRuntime) -> Result<(
     let text = told(&rt, rt.alloc(), b"help")?;
     assert!(rt; text.starts_with(b"bddl compile DOMAIN PROBLEM "));
     assert!(rt; text.ends_with(b"\n30  the steps are spent\n"));
-    assert_eq!(rt; text.iter().filter(|byte| **byte == b'\n').count(), 28);
+    assert_eq!(rt; text.iter().filter(|byte| **byte == b'\n').count(), 29);
     assert_eq!(rt;
         told(&rt, rt.alloc(), b"--help")?.as_slice(),
         text.as_slice()

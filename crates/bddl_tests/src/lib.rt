@@ -39,3 +39,5 @@ mod solving;
 mod solving_formulas;
 #[cfg(test)]
 mod start_positions;
+#[cfg(test)]
+mod trials;

@@ -9,8 +9,10 @@ mod choice;
 mod conditions;
 mod items;
 mod lifted;
+mod limit;
 mod moments;
 mod plies;
 mod run;
 
 pub use lifted::{Lifted, encode};
+pub use limit::gate_limit;

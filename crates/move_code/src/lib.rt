@@ -16,3 +16,4 @@ pub use code::{Shape, bits_of, move_of};
 pub use layout::Layout;
 pub use number::bits;
 pub use range::{CodeWords, in_range, names};
+pub use sizes::anchor_bits;

@@ -36,8 +36,8 @@ impl Model for Sizes {
     ghost invariant = { λ z. AreSmall (record { black_code = z.black_code; white_code = z.white_code; time = z.time; line = z.line; anchor = z.anchor; atom = z.atom; white_line = z.white_line; white_anchor = z.white_anchor; white_time = z.white_time; refuting = z.refuting }) };
 }
 
-// The bits of an anchor.
-fn anchor_bits(game: &Game) -> u32
+/// The bits of an anchor, and of a place: those of a column and then those of a row.
+pub fn anchor_bits(game: &Game) -> u32
     ensures value { result ≡ spec.anchor_bits game.now }
     ensures bound { result ≤ 64 }
 {

@@ -22,6 +22,8 @@ mod layouts;
 #[cfg(test)]
 mod lexing;
 #[cfg(test)]
+mod made;
+#[cfg(test)]
 mod moves;
 #[cfg(test)]
 mod prefixes;

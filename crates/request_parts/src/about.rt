@@ -25,6 +25,7 @@ pub fn help<K: Sink>(out: &mut K) -> Result<Close, Stop<Content>>
         bddl play DOMAIN PROBLEM CERTIFICATE WHO START\n\
         \x20                             plays a strategy against you (WHO 0), the first\n\
         \x20                             move (1), or moves that START decides (2)\n\
+        bddl trial START N            makes two games from a number, and decides the small one\n\
         bddl fmt-domain DOMAIN        writes the canonical text of a domain\n\
         bddl fmt-problem PROBLEM      writes the canonical text of a problem\n\
         bddl help, bddl --help        writes this text\n\

@@ -38,6 +38,9 @@ pub fn named(word: &[u8]) -> Option<Command>
     if word == b"play".as_slice() {
         return Some(Command::Play);
     }
+    if word == b"trial".as_slice() {
+        return Some(Command::Trial);
+    }
     if word == b"fmt-domain".as_slice() {
         return Some(Command::FormatDomain);
     }
@@ -63,7 +66,7 @@ pub fn limits_of(command: Command) -> &'static [Option<u64>]
         Command::Check | Command::Recertify | Command::Play => &[GAME, GAME, CERTIFICATE],
         Command::SolveFormula => &[FORMULA],
         Command::FormatDomain | Command::FormatProblem => &[GAME],
-        Command::Help | Command::Version => &[],
+        Command::Trial | Command::Help | Command::Version => &[],
     }
 }
 
@@ -73,7 +76,7 @@ pub fn numbers_of(command: Command) -> usize
     ensures few { result ≤ 2 }
 {
     match command {
-        Command::Play => 2,
+        Command::Play | Command::Trial => 2,
         Command::Solve | Command::SolveFormula | Command::Certify => 1,
         Command::Compile
         | Command::Check

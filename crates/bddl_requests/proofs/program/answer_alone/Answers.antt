@@ -1,7 +1,7 @@
 use Rattle.std.proofs.Common.{map}
-use Rattle.bddl_model.specs.declared.command.Command.TheVariants.{Compile, Solve, SolveFormula, Certify, Check, Recertify, FormatDomain, FormatProblem}
+use Rattle.bddl_model.specs.declared.command.Command.TheVariants.{Compile, Solve, SolveFormula, Certify, Check, Recertify, Trial, FormatDomain, FormatProblem}
 use Rattle.bddl_model.specs.Request.{limits_of}
-use Rattle.bddl_requests.proofs.Answered.{one_file, three_files, two_files, written_by, written_by_number}
+use Rattle.bddl_requests.proofs.Answered.{nothing_left, one_file, three_files, two_files, written_by, written_by_number, written_by_numbers}
 use Rattle.request_parts.proofs.Files.{within_length}
 use Rattle.bddl_requests.proofs.program.answer_alone.Goals as goal
 
@@ -52,3 +52,9 @@ returns-in-Recertify-clause-written g c replies =
     let three = rw c.in-Recertify.is at (within_length (limits_of c.args.request.now.command) (map (λ w. w.items) c.args.contents.now) c.requires.within) in
     let files = three_files (λ w. w.items) c.args.contents.now c.index-contents-0-in-Recertify.result c.index-contents-1-in-Recertify.result c.index-contents-2-in-Recertify.result c.deref-in-Recertify.result.now c.deref-in-Recertify-2.result.now c.deref-in-Recertify-3.result.now three c.index-contents-0-in-Recertify.is c.index-contents-1-in-Recertify.is c.index-contents-2-in-Recertify.is c.deref-in-Recertify.ensures.value c.deref-in-Recertify-2.ensures.value c.deref-in-Recertify-3.ensures.value in
     written_by Recertify _ _ _ _ replies _ _ _ c.in-Recertify.is files (rw c.in-Recertify.is at c.requires.numbers) c.recertify.ensures.written
+
+pub returns-in-Trial-clause-written : goal.returns-in-Trial-clause-written
+returns-in-Trial-clause-written g c replies =
+    let none = rw c.in-Trial.is at (within_length (limits_of c.args.request.now.command) (map (λ w. w.items) c.args.contents.now) c.requires.within) in
+    let files = nothing_left (map (λ w. w.items) c.args.contents.now) none in
+    written_by_numbers Trial _ _ _ _ replies _ _ _ c.in-Trial.is files c.index-in-Trial.result.now c.index-in-Trial-2.result.now (rw c.in-Trial.is at c.requires.numbers) c.index-in-Trial.ensures c.index-in-Trial-2.ensures c.trial.ensures.written

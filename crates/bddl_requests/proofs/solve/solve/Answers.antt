@@ -1,4 +1,4 @@
-use Rattle.std.proofs.Common.{Ok, arith, refl, subst, sym}
+use Rattle.std.proofs.Common.{Ok, arith, refl, subst, sym, ◌∙◌}
 use Rattle.std.proofs.lemmas.Result.{err_from_is_err_and}
 use Rattle.bddl_model.specs.Outcome.{GameThen, SolveEnds, States}
 use Rattle.bddl_model.specs.Setup.{Setup}
@@ -24,8 +24,8 @@ returns-in_err-put_text-clause-written g c =
     let states = subst (λ s. States c.args.domain.now c.args.problem.now found.0 found.1 (Ok s)) (sym c.setup.view_is) found.2 in
     let decided = c.in_ok-decided.ensures in
     let told = game_is_decided s c.args.budget (Ok c.in_ok-decided.decided) decided.won decided.not_won (λ e. let less = rw c.new-steps.ensures at (decided.spent e).1 in omega (arith, less)) c.args.domain.now c.args.problem.now found.0 found.1 states c.in_ok-decided.decided refl in
-    let out = subst (λ t. ends (closed (decided_close c.in_ok-decided.decided) t)) (sym c.text_of.ensures) told in
-    rw (end.1, end.2) (closed_is_cut content_told ends (decided_close c.in_ok-decided.decided) c.text_of.result.now out _ _ c.in_err-put_text.field-0.0 c.in_err-put_text.ensures.text)
+    let out = subst (λ t. ends (closed (decided_close c.in_ok-decided.decided) t)) (sym (c.as_bytes.ensures.value ∙ c.text_of.ensures)) told in
+    rw (end.1, end.2) (closed_is_cut content_told ends (decided_close c.in_ok-decided.decided) c.as_bytes.result.now out _ _ c.in_err-put_text.field-0.0 c.in_err-put_text.ensures.text)
 
 pub returns-clause-written : goal.returns-clause-written
 returns-clause-written g c =
@@ -35,5 +35,5 @@ returns-clause-written g c =
     let states = subst (λ s. States c.args.domain.now c.args.problem.now found.0 found.1 (Ok s)) (sym c.setup.view_is) found.2 in
     let decided = c.in_ok-decided.ensures in
     let told = game_is_decided s c.args.budget (Ok c.in_ok-decided.decided) decided.won decided.not_won (λ e. let less = rw c.new-steps.ensures at (decided.spent e).1 in omega (arith, less)) c.args.domain.now c.args.problem.now found.0 found.1 states c.in_ok-decided.decided refl in
-    let out = subst (λ t. ends (closed (decided_close c.in_ok-decided.decided) t)) (sym c.text_of.ensures) told in
-    (c.text_of.result.now, rw c.close_of.ensures out, c.in_ok-put_text.ensures.text)
+    let out = subst (λ t. ends (closed (decided_close c.in_ok-decided.decided) t)) (sym (c.as_bytes.ensures.value ∙ c.text_of.ensures)) told in
+    (c.as_bytes.result.now, rw c.close_of.ensures out, c.in_ok-put_text.ensures.text)
